@@ -1,0 +1,17 @@
+-- `money::PensionPence::less` meets its contract: a difference that would be below nothing is nothing.
+-- Assumes nothing.
+use native.Mathlib.Omega.{arith}
+use mathlib.Core.Path.{ap}
+use borrow.Author.Needs.{needs}
+use Rattle.money.specs.Money.{pension}
+use Rattle.money.proofs.PensionPence.less.Statement.{statement}
+use Rattle.money.proofs.PensionPence.less.Tie as tie
+
+returns : tie.Need-returns
+returns c = ap pension (omega arith)
+
+returns-2 : tie.Need-returns-2
+returns-2 c = search needs
+
+pub less-spec : {M : Type 1} → statement M
+less-spec = tie.close (tie.spec returns returns-2)

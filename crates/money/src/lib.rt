@@ -1,0 +1,97 @@
+// Pension a year and contribution, both in pence. Each has its own arithmetic, and nothing adds one to the other.
+ghost use mathlib.Core.Path.{_≡_};
+ghost use Prim.Native.Nat.{_+_, _*_, _-_, _/_, _<_, _^_};
+ghost use lib.Dec.{ltb};
+ghost use Rattle.rounding.specs.Nearest.{blend};
+ghost use Rattle.money.specs.Money.{pension, contribution};
+
+pub struct PensionPence(pub u64);
+
+pub struct ContributionPence(pub u64);
+
+impl PensionPence {
+    pub fn none() -> Self
+        ensures { λ r. ⌜ r ≡ pension 0 ⌝ }
+    {
+        PensionPence(0)
+    }
+
+    // An amount in whole pounds a year.
+    pub fn of_pounds(pounds: u32) -> Self
+        ensures { λ r. ⌜ r ≡ pension (pounds * 100) ⌝ }
+    {
+        PensionPence(pounds as u64 * 100)
+    }
+
+    pub fn plus(self, other: PensionPence) -> Self
+        requires { ⌜ self .0 + other .0 < 2 ^ 64 ⌝ }
+        ensures { λ r. ⌜ r ≡ pension (self .0 + other .0) ⌝ }
+    {
+        PensionPence(self.0 + other.0)
+    }
+
+    // What is left of this when another is taken away: nothing where the other is more.
+    pub fn less(self, other: PensionPence) -> Self
+        ensures { λ r. ⌜ r ≡ pension (self .0 - other .0) ⌝ }
+    {
+        if self.0 < other.0 {
+            return PensionPence(0);
+        }
+        PensionPence(self.0 - other.0)
+    }
+
+    pub fn is_above(self, other: PensionPence) -> bool
+        ensures { λ r. ⌜ r ≡ ltb (other .0) (self .0) ⌝ }
+    {
+        other.0 < self.0
+    }
+
+    // How many whole steps fit into this; none where the step is nothing.
+    pub fn whole_steps(self, step: PensionPence) -> u64
+        ensures { λ r. ⌜ r ≡ self .0 / step .0 ⌝ }
+    {
+        if step.0 == 0 {
+            return 0;
+        }
+        self.0 / step.0
+    }
+
+    // m twelfths of the way to another.
+    pub fn blend(self, other: PensionPence, m: u32) -> Self
+        requires { ⌜ (self .0 < 2 ^ 32) × (other .0 < 2 ^ 32) ⌝ }
+        ensures { λ r. ⌜ r ≡ pension (blend m (self .0) (other .0)) ⌝ }
+    {
+        PensionPence(rounding::blend(m, self.0 as u32, other.0 as u32))
+    }
+}
+
+impl ContributionPence {
+    pub fn none() -> Self
+        ensures { λ r. ⌜ r ≡ contribution 0 ⌝ }
+    {
+        ContributionPence(0)
+    }
+
+    // A number of units at a rate in pence for each.
+    pub fn of_units(units: u32, rate: u32) -> Self
+        ensures { λ r. ⌜ r ≡ contribution (units * rate) ⌝ }
+    {
+        ContributionPence(units as u64 * rate as u64)
+    }
+
+    // The same contribution paid n times.
+    pub fn times(self, n: u32) -> Self
+        requires { ⌜ self .0 < 2 ^ 32 ⌝ }
+        ensures { λ r. ⌜ r ≡ contribution (self .0 * n) ⌝ }
+    {
+        ContributionPence(self.0 * n as u64)
+    }
+
+    // m twelfths of the way to another.
+    pub fn blend(self, other: ContributionPence, m: u32) -> Self
+        requires { ⌜ (self .0 < 2 ^ 32) × (other .0 < 2 ^ 32) ⌝ }
+        ensures { λ r. ⌜ r ≡ contribution (blend m (self .0) (other .0)) ⌝ }
+    {
+        ContributionPence(rounding::blend(m, self.0 as u32, other.0 as u32))
+    }
+}

@@ -1,0 +1,62 @@
+-- What follows for any rounding from its being within a half, or monotone.
+-- Assumes nothing.
+use mathlib.Core.Path.{_≡_, ap, _∙_}
+use Prim.Native.Nat.{ℕ, _+_, _*_, _-_, _≤_, _<_}
+use native.Mathlib.Nat.{mul-le-mul-left, lt-of-mul-lt-mul-left, le-antisymm}
+use native.Mathlib.Omega.{arith}
+use Rattle.rounding.specs.Nearest.{nearest, blendBy, blend}
+use Rattle.rounding.specs.Rounding.{WithinHalf, Monotone}
+use Rattle.rounding.proofs.HalfUp.{nearest-within-half}
+
+-- twelfths m and 12 − m of figures that are at most u, or at least l
+weighted-most : (m lo hi u : ℕ) → m ≤ 12 → lo ≤ u → hi ≤ u → (12 - m) * lo + m * hi ≤ u * 12
+weighted-most m lo hi u h p q =
+    let s : (12 - m) + m ≡ 12 = omega arith in
+    omega (arith, mul-le-mul-left (12 - m) p, mul-le-mul-left m q, ap (λ t. t * u) s)
+
+weighted-least : (m lo hi l : ℕ) → m ≤ 12 → l ≤ lo → l ≤ hi → l * 12 ≤ (12 - m) * lo + m * hi
+weighted-least m lo hi l h p q =
+    let s : (12 - m) + m ≡ 12 = omega arith in
+    omega (arith, mul-le-mul-left (12 - m) p, mul-le-mul-left m q, ap (λ t. t * l) s)
+
+module _ (round : ℕ → ℕ → ℕ) (half : WithinHalf round) where
+  -- a quotient of at most q rounds to at most q
+  pub round-most : (n d q : ℕ) → 0 < d → n ≤ q * d → round n d ≤ q
+  round-most n d q d0 h =
+      let l : 2 * d * round n d < 2 * d * (q + 1) = omega (arith, half .above n d d0) in
+      omega (arith, lt-of-mul-lt-mul-left (2 * d) l)
+
+  -- a quotient of at least q rounds to at least q
+  pub round-least : (n d q : ℕ) → 0 < d → q * d ≤ n → q ≤ round n d
+  round-least n d q d0 h =
+      let l : 2 * d * q < 2 * d * (round n d + 1) = omega (arith, half .below n d d0) in
+      omega (arith, lt-of-mul-lt-mul-left (2 * d) l)
+
+  -- a whole quotient stays
+  pub round-whole : (q d : ℕ) → 0 < d → round (q * d) d ≡ q
+  round-whole q d d0 = le-antisymm (round-most (q * d) d q d0 (omega arith)) (round-least (q * d) d q d0 (omega arith))
+
+  -- a blend lies between bounds of both figures
+  pub blended-most : (m lo hi u : ℕ) → m ≤ 12 → lo ≤ u → hi ≤ u → blendBy round m lo hi ≤ u
+  blended-most m lo hi u h p q = round-most ((12 - m) * lo + m * hi) 12 u (omega arith) (weighted-most m lo hi u h p q)
+
+  pub blended-least : (m lo hi l : ℕ) → m ≤ 12 → l ≤ lo → l ≤ hi → l ≤ blendBy round m lo hi
+  blended-least m lo hi l h p q = round-least ((12 - m) * lo + m * hi) 12 l (omega arith) (weighted-least m lo hi l h p q)
+
+  -- no twelfths: the first figure itself
+  pub blended-none : (lo hi : ℕ) → blendBy round 0 lo hi ≡ lo
+  blended-none lo hi =
+      let e : (12 - 0) * lo + 0 * hi ≡ lo * 12 = omega arith in
+      ap (λ (n : ℕ). round n 12) e ∙ round-whole lo 12 (omega arith)
+
+-- a blend of greater figures is at least as great
+pub blended-monotone : (round : ℕ → ℕ → ℕ) → Monotone round → (m a b c d : ℕ) → a ≤ c → b ≤ d
+    → blendBy round m a b ≤ blendBy round m c d
+blended-monotone round mono m a b c d p q =
+    mono .keeps ((12 - m) * a + m * b) 12 ((12 - m) * c + m * d) 12 (omega arith) (omega arith)
+    (omega (arith, mul-le-mul-left (12 - m) p, mul-le-mul-left m q))
+
+-- the same of the blend to the nearest, for callers that need no other
+pub blend-most : (m lo hi u : ℕ) → m ≤ 12 → lo ≤ u → hi ≤ u → blend m lo hi ≤ u
+unfolding blend
+blend-most = blended-most nearest nearest-within-half

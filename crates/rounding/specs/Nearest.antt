@@ -1,0 +1,15 @@
+-- Document 01, "From rate to contribution and credit": to the nearest, a half going up; two figures blended by twelfths.
+-- Assumes nothing.
+use Prim.Native.Nat.{ℕ, _+_, _*_, _-_, _/_}
+
+-- n ÷ d to the nearest whole number, a half going up: the whole part of n ÷ d + 1/2
+unfoldable pub nearest : ℕ → ℕ → ℕ
+nearest n d = (2 * n + d) / (2 * d)
+
+-- ((12 − m) × lo + m × hi) ÷ 12, by a rounding
+abbrev pub blendBy : (ℕ → ℕ → ℕ) → ℕ → ℕ → ℕ → ℕ
+blendBy round m lo hi = round ((12 - m) * lo + m * hi) 12
+
+-- the same to the nearest
+unfoldable pub blend : ℕ → ℕ → ℕ → ℕ
+blend = blendBy nearest

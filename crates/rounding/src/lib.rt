@@ -1,0 +1,30 @@
+// Rounding to the nearest whole number, and the blend of two figures by twelfths.
+// Callers go by the laws of proofs/Laws, so that another rounding can stand behind the name `nearest`.
+ghost use mathlib.Core.Path.{_≡_};
+ghost use Rattle.rounding.specs.Nearest.{nearest, blend};
+
+// n ÷ d to the nearest whole number, a half going up; 0 where d is 0.
+pub fn nearest(n: u64, d: u64) -> u64
+    ensures { λ r. ⌜ r ≡ nearest n d ⌝ }
+{
+    if d == 0 {
+        return 0;
+    }
+    let whole = n / d;
+    let rest = n % d;
+    if rest < d - rest {
+        return whole;
+    }
+    whole + 1
+}
+
+// ((12 − m) × lo + m × hi) ÷ 12 to the nearest; 12 − m is 0 where m is more than 12.
+pub fn blend(m: u32, lo: u32, hi: u32) -> u64
+    ensures { λ r. ⌜ r ≡ blend m lo hi ⌝ }
+{
+    if m < 12 {
+        let rest = 12 - m;
+        return nearest(rest as u64 * lo as u64 + m as u64 * hi as u64, 12);
+    }
+    nearest(m as u64 * hi as u64, 12)
+}
