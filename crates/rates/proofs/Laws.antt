@@ -7,7 +7,7 @@ use Prim.Native.Nat.{ℕ, suc, _+_, _-_, _%_, _≤_, _<_, zero-le}
 use native.Mathlib.Nat.{le-refl, le-trans}
 use native.Mathlib.Decide.{le-ind}
 use native.Mathlib.Omega.{arith}
-use lib.ListN.{length, getD}
+use lib.ListN.{length, getD, replicate, getD-replicate}
 use lib.Dec.{ltb}
 use borrow.Author.Tests.{ltb-true, ltb-false}
 use Rattle.common.specs.Choice.{pick}
@@ -82,6 +82,16 @@ rate-in-row o p age term = by (ltb term 1) (ltb 20 term) refl refl
         let high : term ≤ 20 = ltb-false 20 term f in
         let same : 1 + (term - 1) ≡ term = omega (arith, ltb-false term 1 e) in
         getD-tabulate (rateOf o p age) 1 20 (term - 1) (omega arith) ∙ ap (rateOf o p age) same
+
+-- and a row of zeros has none
+pub rate-in-none : (term : ℕ) → rateIn (replicate 20 0) term ≡ 0
+unfolding rateIn
+rate-in-none term = by (ltb term 1) (ltb 20 term) refl
+  where
+    by : (a b : Bool) → ltb 20 term ≡ b → _≡_ {A = ℕ} (pick a 0 (pick b 0 (getD (replicate 20 0) (term - 1) 0))) 0
+    by true b f = refl
+    by false true f = refl
+    by false false f = getD-replicate 20 (term - 1) 0 0 (omega (arith, ltb-false 20 term f))
 
 -- the print rule of Table S, both ways
 pub lump-printed : (o age : ℕ) → 0 < lumpRateOf o age → LumpPrinted o age

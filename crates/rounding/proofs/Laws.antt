@@ -1,10 +1,14 @@
 -- What follows for any rounding from its being within a half, or monotone.
 -- Assumes nothing.
-use mathlib.Core.Path.{_≡_, ap, _∙_}
+use mathlib.Core.Bool.{Bool, true, false}
+use mathlib.Core.Path.{_≡_, refl, ap, _∙_}
 use Prim.Native.Nat.{ℕ, _+_, _*_, _-_, _≤_, _<_}
 use native.Mathlib.Nat.{mul-le-mul-left, lt-of-mul-lt-mul-left, le-antisymm}
 use native.Mathlib.Omega.{arith}
-use Rattle.rounding.specs.Nearest.{nearest, blendBy, blend}
+use lib.Dec.{eqb}
+use borrow.Author.Tests.{eqb-false}
+use Rattle.common.specs.Choice.{pick}
+use Rattle.rounding.specs.Nearest.{nearest, blendBy, blend, combine}
 use Rattle.rounding.specs.Rounding.{WithinHalf, Monotone}
 use Rattle.rounding.proofs.HalfUp.{nearest-within-half}
 
@@ -56,7 +60,20 @@ blended-monotone round mono m a b c d p q =
     mono .keeps ((12 - m) * a + m * b) 12 ((12 - m) * c + m * d) 12 (omega arith) (omega arith)
     (omega (arith, mul-le-mul-left (12 - m) p, mul-le-mul-left m q))
 
--- the same of the blend to the nearest, for callers that need no other
-pub blend-most : (m lo hi u : ℕ) → m ≤ 12 → lo ≤ u → hi ≤ u → blend m lo hi ≤ u
-unfolding blend
-blend-most = blended-most nearest nearest-within-half
+-- two tables' figures combined are at most what both are at most
+pub combine-most : (m lo hi u : ℕ) → m ≤ 12 → lo ≤ u → hi ≤ u → combine m lo hi ≤ u
+unfolding combine blend
+combine-most m lo hi u h p q = go (eqb m 0)
+  where
+    go : (b : Bool) → pick b lo (blendBy nearest m lo hi) ≤ u
+    go true = p
+    go false = blended-most nearest nearest-within-half m lo hi u h p q
+
+-- at a whole pension age the upper figure does not matter
+pub combine-upper : (m lo a b : ℕ) → ((m ≡ 0 → ⊥) → a ≡ b) → combine m lo a ≡ combine m lo b
+unfolding combine
+combine-upper m lo a b h = go (eqb m 0) refl
+  where
+    go : (t : Bool) → eqb m 0 ≡ t → pick t lo (blend m lo a) ≡ pick t lo (blend m lo b)
+    go true e = refl
+    go false e = ap (blend m lo) (h (eqb-false m 0 e))

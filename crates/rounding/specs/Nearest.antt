@@ -1,6 +1,8 @@
 -- Document 01, "From rate to contribution and credit": to the nearest, a half going up; two figures blended by twelfths.
 -- Assumes nothing.
 use Prim.Native.Nat.{ℕ, _+_, _*_, _-_, _/_}
+use lib.Dec.{eqb}
+use Rattle.common.specs.Choice.{pick}
 
 -- n ÷ d to the nearest whole number, a half going up: the whole part of n ÷ d + 1/2
 unfoldable pub nearest : ℕ → ℕ → ℕ
@@ -13,3 +15,7 @@ blendBy round m lo hi = round ((12 - m) * lo + m * hi) 12
 -- the same to the nearest
 unfoldable pub blend : ℕ → ℕ → ℕ → ℕ
 blend = blendBy nearest
+
+-- the figures of two neighbouring tables: at a whole pension age the lower one's, with m odd months both blended
+unfoldable pub combine : ℕ → ℕ → ℕ → ℕ
+combine m lo hi = pick (eqb m 0) lo (blend m lo hi)

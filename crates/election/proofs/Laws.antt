@@ -1,0 +1,79 @@
+-- What callers use of an election's refusal and price, without opening either.
+-- Assumes nothing.
+use mathlib.Core.Bool.{Bool, true, false, not, _&&_, _||_}
+use mathlib.Core.Path.{_≡_, refl, sym, ap, subst, _∙_}
+use Prim.Native.Nat.{ℕ, _+_, _*_, _/_, _%_, _≤_, _<_}
+use native.Mathlib.Omega.{arith}
+use lib.Dec.{T, ltb, leb, eqb}
+use borrow.Author.Tests.{ltb-false, eqb-true, eqb-false, eq-eqb, ne-eqb, not-false}
+use Rattle.common.specs.Choice.{pick}
+use Rattle.common.proofs.Tests.{or-false}
+use Rattle.election.specs.declared.Terms.{Terms}
+use Rattle.election.specs.declared.Priced.{Priced}
+use Rattle.election.specs.Rate.{tableRate}
+use Rattle.election.specs.Rules.{wrongOption, wrongPensionAge, wrongTerm, wrongPayer, noLowerRate, noUpperRate, wrongAmount, aboveCap, refusalOf}
+use Rattle.election.specs.Price.{refused, accepted, pricedOf}
+use Rattle.election.specs.Told.{PensionAgeIn, TermsPass, Accepted}
+
+pub pension-age-in : (t : Terms) → wrongPensionAge t ≡ false → PensionAgeIn t
+unfolding wrongPensionAge
+pension-age-in t e =
+    let months = or-false _ _ e in
+    let years = or-false _ _ (months .1) in
+    record { months-high = ltb-false _ _ (months .0); years-low = ltb-false _ _ (years .0); age-high = ltb-false _ _ (years .1) }
+
+module _ (t : Terms) (existing : ℕ) where
+  pub priced-refused : (refusalOf t existing ≡ 0 → ⊥) → pricedOf t existing ≡ refused (refusalOf t existing)
+  unfolding pricedOf
+  priced-refused h = rw (ne-eqb _ _ h)
+
+  pub priced-accepted : refusalOf t existing ≡ 0 → pricedOf t existing ≡ accepted t
+  unfolding pricedOf
+  priced-accepted h = rw (eq-eqb _ _ h)
+
+-- A chain gives 0 only where its first test fails and the rest gives 0.
+passed : (b : Bool) (n rest : ℕ) → 0 < n → pick b n rest ≡ 0 → (b ≡ false) × (rest ≡ 0)
+passed true n rest p e = absurd (omega arith)
+passed false n rest p e = (refl, e)
+
+option-in : (t : Terms) → wrongOption t ≡ false → (1 ≤ t .option) × (t .option ≤ 2)
+unfolding wrongOption
+option-in t e = go (eqb (t .option) 1) (eqb (t .option) 2) refl refl (not-false _ e)
+  where
+    go : (a b : Bool) → eqb (t .option) 1 ≡ a → eqb (t .option) 2 ≡ b → (a || b) ≡ true → (1 ≤ t .option) × (t .option ≤ 2)
+    go true b p q h = omega (arith, eqb-true (t .option) 1 p)
+    go false true p q h = omega (arith, eqb-true (t .option) 2 q)
+    go false false p q h = absurd (subst T (sym h) tt)
+
+upper-in : (t : Terms) → noUpperRate t ≡ false → (t .months ≡ 0 → ⊥) → 0 < tableRate t (t .years + 1)
+unfolding noUpperRate
+upper-in t e odd =
+    let some : eqb (tableRate t (t .years + 1)) 0 ≡ false = rw (ne-eqb (t .months) 0 odd) at e in
+    omega (arith, eqb-false (tableRate t (t .years + 1)) 0 some)
+
+-- what terms that no rule refuses have
+pub accepted-facts : (t : Terms) (existing : ℕ) → refusalOf t existing ≡ 0 → Accepted t existing
+unfolding refusalOf wrongTerm noLowerRate wrongAmount aboveCap
+accepted-facts t existing e =
+    let r1 = passed (wrongOption t) 1 _ (omega arith) e in
+    let r2 = passed (wrongPensionAge t) 2 _ (omega arith) (r1 .1) in
+    let r3 = passed (wrongTerm t) 3 _ (omega arith) (r2 .1) in
+    let r4 = passed (wrongPayer t) 4 _ (omega arith) (r3 .1) in
+    let r5 = passed (noLowerRate t) 5 _ (omega arith) (r4 .1) in
+    let r6 = passed (noUpperRate t) 6 _ (omega arith) (r5 .1) in
+    let r7 = passed (wrongAmount t) 7 _ (omega arith) (r6 .1) in
+    let r8 = passed (aboveCap t existing) 8 0 (omega arith) (r7 .1) in
+    let amount = or-false (ltb (t .amount) 250) (not (eqb (t .amount % 250) 0)) (r7 .0) in
+    let even : t .amount % 250 ≡ 0 = eqb-true (t .amount % 250) 0 (not-false _ (amount .1)) in
+    let option = option-in t (r1 .0) in
+    record {
+      option-low = option .0;
+      option-high = option .1;
+      pension-age = pension-age-in t (r2 .0);
+      term-high = ltb-false _ _ (r3 .0);
+      lower-rate = omega (arith, eqb-false (tableRate t (t .years)) 0 (r5 .0));
+      upper-rate = upper-in t (r6 .0);
+      amount-low = ltb-false _ _ (amount .0);
+      whole = omega arith;
+      under-cap = ltb-false _ _ (r8 .0);
+    }

@@ -1,0 +1,53 @@
+-- The rates that the terms have, as they are found in rows.
+-- Assumes nothing.
+use mathlib.Core.Bool.{Bool, true, false}
+use mathlib.Core.Path.{_≡_, refl, ap, _∙_}
+use Prim.Native.Nat.{ℕ, _≤_}
+use native.Mathlib.Omega.{arith}
+use lib.Dec.{eqb}
+use borrow.Author.Tests.{ne-eqb}
+use Rattle.common.specs.Choice.{pick}
+use Rattle.rates.specs.Rates.{rateOf, rowOf, rateIn, lumpRateOf}
+use Rattle.rates.proofs.Laws.{rate-in-row, rate-in-none, rate-most, lump-most}
+use Rattle.election.specs.declared.Terms.{Terms}
+use Rattle.election.specs.Rate.{tableRate, noRates, ratesAt, upperRatesAt, foundIn}
+
+-- the row of a pension age has the table's rate
+pub found : (t : Terms) (p : ℕ) → foundIn t (ratesAt t p) ≡ tableRate t p
+unfolding foundIn tableRate ratesAt
+found t p = go (eqb (t .term) 0)
+  where
+    go : (b : Bool) → pick b (lumpRateOf (t .option) (t .age)) (rateIn (pick b noRates (rowOf (t .option) p (t .age))) (t .term))
+        ≡ pick b (lumpRateOf (t .option) (t .age)) (rateOf (t .option) p (t .age) (t .term))
+    go true = refl
+    go false = rate-in-row (t .option) p (t .age) (t .term)
+
+-- with odd months the upper row has the upper table's
+pub found-upper : (t : Terms) (p : ℕ) → (t .months ≡ 0 → ⊥) → foundIn t (upperRatesAt t p) ≡ tableRate t p
+unfolding upperRatesAt
+found-upper t p h = rw (ne-eqb (t .months) 0 h) (found t p)
+
+-- no rate is above the greatest lump sum for £250
+pub table-rate-most : (t : Terms) (p : ℕ) → tableRate t p ≤ 456000
+unfolding tableRate
+table-rate-most t p = go (eqb (t .term) 0)
+  where
+    go : (b : Bool) → pick b (lumpRateOf (t .option) (t .age)) (rateOf (t .option) p (t .age) (t .term)) ≤ 456000
+    go true = lump-most (t .option) (t .age)
+    go false = omega (arith, rate-most (t .option) p (t .age) (t .term))
+
+none-most : (t : Terms) → foundIn t noRates ≤ 456000
+unfolding foundIn
+none-most t = go (eqb (t .term) 0)
+  where
+    go : (b : Bool) → pick b (lumpRateOf (t .option) (t .age)) (rateIn noRates (t .term)) ≤ 456000
+    go true = lump-most (t .option) (t .age)
+    go false = omega (arith, rate-in-none (t .term))
+
+pub found-upper-most : (t : Terms) (p : ℕ) → foundIn t (upperRatesAt t p) ≤ 456000
+unfolding upperRatesAt
+found-upper-most t p = go (eqb (t .months) 0)
+  where
+    go : (b : Bool) → foundIn t (pick b noRates (ratesAt t p)) ≤ 456000
+    go true = none-most t
+    go false = omega (arith, found t p, table-rate-most t p)

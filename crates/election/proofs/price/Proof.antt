@@ -1,0 +1,109 @@
+-- `election::price` meets its contract: the two halves of the chain give the first refusal, and the rows the rates.
+-- Assumes nothing.
+use mathlib.Core.List.{List}
+use mathlib.Core.Path.{_≡_, refl, sym, ap, _∙_}
+use Prim.Native.Nat.{ℕ, _+_, _≤_, _<_}
+use native.Mathlib.Omega.{arith}
+use borrow.Author.Needs.{needs}
+use Rattle.election.proofs.Laws.{pension-age-in, priced-refused, priced-accepted, accepted-facts}
+use Rattle.election.proofs.Rates.{found, found-upper, found-upper-most, table-rate-most}
+use Rattle.election.specs.Price.{contributionAt, contributionIn, contributionOf, refused, accepted, pricedOf}
+use Rattle.election.specs.Rate.{tableRate, ratesAt, upperRatesAt, foundIn}
+use Rattle.election.specs.Rules.{refusalOf}
+use Rattle.election.specs.declared.Priced.{Priced}
+use Rattle.election.specs.declared.Terms.{Terms}
+use Rattle.money.specs.Money.{contribution}
+use Rattle.money.specs.declared.ContributionPence.{ContributionPence}
+use Rattle.rounding.proofs.Laws.{combine-upper}
+use Rattle.rounding.specs.Nearest.{combine}
+use Rattle.election.proofs.price.Statement.{statement}
+use Rattle.election.proofs.price.Tie as tie
+
+first : (t : Terms) (existing n : ℕ) → n ≡ refusalOf t existing → (n ≡ 0 → ⊥) → refused n ≡ pricedOf t existing
+first t existing n e some = ap refused e ∙ sym (priced-refused t existing (λ z. some (e ∙ z)))
+
+costs : (t : Terms) (lower upper : ℕ) → lower ≡ tableRate t (t .years)
+    → ((t .months ≡ 0 → ⊥) → upper ≡ tableRate t (t .years + 1))
+    → combine (t .months) (contributionAt t lower) (contributionAt t upper) ≡ contributionOf t
+unfolding contributionOf contributionIn
+costs t lower upper e h =
+    ap (λ (r : ℕ). combine (t .months) (contributionAt t r) (contributionAt t upper)) e
+    ∙ combine-upper (t .months) _ _ _ (λ odd. ap (contributionAt t) (h odd))
+
+whole : (t : Terms) (existing : ℕ) {k : ContributionPence} {lower upper : List ℕ} → refusalOf t existing ≡ 0
+    → k ≡ contribution (contributionOf t) → lower ≡ ratesAt t (t .years) → upper ≡ upperRatesAt t (t .years + 1)
+    → _≡_ {A = Priced} (record { refusal = 0; contribution = k; lower = lower; upper = upper }) (pricedOf t existing)
+whole t existing h p q r = rw (p, q, r) (sym (priced-accepted t existing h))
+
+terms-refusal-requires : tie.Need-terms-refusal-requires
+terms-refusal-requires c κs = search needs
+
+refuse-requires : tie.Need-refuse-requires
+refuse-requires c κs = search needs
+
+returns : tie.Need-returns
+returns c = 
+    let told = c .before .before .terms-refusal .ensures in
+    let some = c .before .if1 .taken in
+    c .refuse .ensures ∙ first _ _ _ (told .first _ some) some
+
+rates-at-requires : tie.Need-rates-at-requires
+rates-at-requires c κs = search needs
+
+add-upper-rates-at : tie.Need-add-upper-rates-at
+add-upper-rates-at c = omega (arith, pension-age-in _ (c .before .before .before .terms-refusal .ensures .pass (c .before .before .if1 .left) .pension-age))
+
+upper-rates-at-requires : tie.Need-upper-rates-at-requires
+upper-rates-at-requires c κs = search needs
+
+rate-of-requires : tie.Need-rate-of-requires
+rate-of-requires c κs = search needs
+
+rate-of-requires-2 : tie.Need-rate-of-requires-2
+rate-of-requires-2 c κs = search needs
+
+price-refusal-requires : tie.Need-price-refusal-requires
+price-refusal-requires c κs = 
+    let t = c .before .before .before .before .before .before .before .args .t in
+    record {
+      pass = c .before .before .before .before .before .before .terms-refusal .ensures .pass (c .before .before .before .before .before .if1 .left);
+      lower-is = c .before .rate-of .ensures ∙ ap (foundIn t) (c .before .before .before .before .rates-at .ensures) ∙ found t _;
+      upper-is = λ odd. c .rate-of2 .ensures ∙ ap (foundIn t) (c .before .before .upper-rates-at .ensures) ∙ found-upper t _ odd;
+    }
+
+refuse-requires-2 : tie.Need-refuse-requires-2
+refuse-requires-2 c κs = search needs
+
+returns-2 : tie.Need-returns-2
+returns-2 c = c .refuse2 .ensures ∙ first _ _ _ (c .before .before .price-refusal .ensures) (c .before .if2 .taken)
+
+cost-requires : tie.Need-cost-requires
+cost-requires c κs = 
+    let t = c .before .before .before .before .before .before .before .before .before .args .t in
+    let low = accepted-facts t _ (sym (c .before .price-refusal .ensures) ∙ c .if2 .left) in
+    (omega (arith, low .under-cap), omega (arith, c .before .before .before .rate-of .ensures ∙ ap (foundIn t) (c .before .before .before .before .before .before .rates-at .ensures) ∙ found t _, table-rate-most t (t .years)), omega (arith, c .before .before .rate-of2 .ensures ∙ ap (foundIn t) (c .before .before .before .before .upper-rates-at .ensures), found-upper-most t (t .years + 1)))
+
+returns-3 : tie.Need-returns-3
+returns-3 c = 
+    let t = c .before .before .before .before .before .before .before .before .before .before .args .t in
+    let lower-is = c .before .before .before .before .rate-of .ensures ∙ ap (foundIn t) (c .before .before .before .before .before .before .before .rates-at .ensures) ∙ found t _ in
+    whole t _ (sym (c .before .before .price-refusal .ensures) ∙ c .before .if2 .left)
+    (c .cost .ensures ∙ ap contribution (costs t _ _ lower-is (λ odd. c .before .before .before .rate-of2 .ensures ∙ ap (foundIn t) (c .before .before .before .before .before .upper-rates-at .ensures) ∙ found-upper t _ odd))) (c .before .before .before .before .before .before .before .rates-at .ensures) (c .before .before .before .before .before .upper-rates-at .ensures)
+
+pub price-spec : {M : Type 1} → statement M
+price-spec =
+    tie.close
+    (tie.spec
+    terms-refusal-requires
+    refuse-requires
+    returns
+    rates-at-requires
+    add-upper-rates-at
+    upper-rates-at-requires
+    rate-of-requires
+    rate-of-requires-2
+    price-refusal-requires
+    refuse-requires-2
+    returns-2
+    cost-requires
+    returns-3)

@@ -1,0 +1,24 @@
+-- `election::rate_of` meets its contract: a lump sum has its own table.
+-- Assumes nothing.
+use borrow.Author.Needs.{needs}
+use Rattle.common.proofs.Tests.{tests}
+use Rattle.election.specs.Rate.{foundIn}
+use Rattle.election.proofs.rate_of.Statement.{statement}
+use Rattle.election.proofs.rate_of.Tie as tie
+
+lump-sum-rate-requires : tie.Need-lump-sum-rate-requires
+lump-sum-rate-requires c κs = search needs
+
+returns : tie.Need-returns
+unfolding foundIn
+returns c = search (tests, ← c .lump-sum-rate .ensures)
+
+rate-in-requires : tie.Need-rate-in-requires
+rate-in-requires c κs = search needs
+
+returns-2 : tie.Need-returns-2
+unfolding foundIn
+returns-2 c = search (tests, ← c .rate-in .ensures)
+
+pub rate-of-spec : {M : Type 1} → statement M
+rate-of-spec = tie.close (tie.spec lump-sum-rate-requires returns rate-in-requires returns-2)

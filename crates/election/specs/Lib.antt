@@ -1,0 +1,4 @@
+pub mod Rate
+pub mod Rules
+pub mod Price
+pub mod Told

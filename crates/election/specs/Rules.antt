@@ -1,0 +1,52 @@
+-- Document 01, "What each operation gives", Quote: what refuses an election, 1 to 8, in this order.
+-- Assumes nothing.
+use mathlib.Core.Bool.{Bool, not, _&&_, _||_}
+use Prim.Native.Nat.{ℕ, _+_, _*_, _%_}
+use lib.Dec.{ltb, eqb}
+use Rattle.common.specs.Choice.{pick}
+use Rattle.election.specs.declared.Terms.{Terms}
+use Rattle.election.specs.Rate.{tableRate}
+
+-- 1: option not 1 or 2
+unfoldable pub wrongOption : Terms → Bool
+wrongOption t = not (eqb (t .option) 1 || eqb (t .option) 2)
+
+-- 2: pension age not from 65 years 0 months to 68 years 0 months, or its months not 0 to 11
+unfoldable pub wrongPensionAge : Terms → Bool
+wrongPensionAge t = ltb 11 (t .months) || (ltb (t .years) 65 || ltb (68 * 12) (t .years * 12 + t .months))
+
+-- 3: term above 20
+unfoldable pub wrongTerm : Terms → Bool
+wrongTerm t = ltb 20 (t .term)
+
+-- 4: payer not 1 or 2, or an employer with a term above 0
+unfoldable pub wrongPayer : Terms → Bool
+wrongPayer t = not (eqb (t .payer) 1 || eqb (t .payer) 2) || (eqb (t .payer) 2 && ltb 0 (t .term))
+
+-- 5: no entry at that age in Table S, or in the only or lower monthly table
+unfoldable pub noLowerRate : Terms → Bool
+noLowerRate t = eqb (tableRate t (t .years)) 0
+
+-- 6: with odd months, no entry in the upper table
+unfoldable pub noUpperRate : Terms → Bool
+noUpperRate t = not (eqb (t .months) 0) && eqb (tableRate t (t .years + 1)) 0
+
+-- 7: amount not a multiple of £250 of at least £250
+unfoldable pub wrongAmount : Terms → Bool
+wrongAmount t = ltb (t .amount) 250 || not (eqb (t .amount % 250) 0)
+
+-- 8: existing pension and the new amount together above the cap of £6,500, in pence
+unfoldable pub aboveCap : Terms → ℕ → Bool
+aboveCap t existing = ltb 650000 (existing + t .amount * 100)
+
+-- the number of the first rule that refuses, 0 where none does
+unfoldable pub refusalOf : Terms → ℕ → ℕ
+refusalOf t existing =
+    pick (wrongOption t) 1
+    (pick (wrongPensionAge t) 2
+    (pick (wrongTerm t) 3
+    (pick (wrongPayer t) 4
+    (pick (noLowerRate t) 5
+    (pick (noUpperRate t) 6
+    (pick (wrongAmount t) 7
+    (pick (aboveCap t existing) 8 0)))))))

@@ -1,0 +1,44 @@
+-- What the steps on the way to a price promise each other, and what holds of accepted terms.
+-- Assumes nothing.
+use mathlib.Core.Bool.{false}
+use mathlib.Core.Path.{_≡_}
+use Prim.Native.Nat.{ℕ, _+_, _*_, _/_, _≤_, _<_}
+use Rattle.election.specs.declared.Terms.{Terms}
+use Rattle.election.specs.Rate.{tableRate}
+use Rattle.election.specs.Rules.{wrongOption, wrongPensionAge, wrongTerm, wrongPayer, refusalOf}
+
+-- no rule before the rates refuses
+pub record TermsPass (t : Terms) : Type 0 where
+  pub option : wrongOption t ≡ false
+  pub pension-age : wrongPensionAge t ≡ false
+  pub term : wrongTerm t ≡ false
+  pub payer : wrongPayer t ≡ false
+
+-- r is the first refusal of 1 to 4, or 0
+pub record TermsTold (t : Terms) (r : ℕ) : Type 0 where
+  pub first : (existing : ℕ) → (r ≡ 0 → ⊥) → r ≡ refusalOf t existing
+  pub pass : r ≡ 0 → TermsPass t
+
+-- the rates of the needed tables, of terms that pass so far
+pub record Found (t : Terms) (lower upper : ℕ) : Type 0 where
+  pub pass : TermsPass t
+  pub lower-is : lower ≡ tableRate t (t .years)
+  pub upper-is : (t .months ≡ 0 → ⊥) → upper ≡ tableRate t (t .years + 1)
+
+-- the pension age is from 65 years 0 months to 68 years 0 months
+pub record PensionAgeIn (t : Terms) : Type 0 where
+  pub months-high : t .months ≤ 11
+  pub years-low : 65 ≤ t .years
+  pub age-high : t .years * 12 + t .months ≤ 68 * 12
+
+-- what holds of terms that no rule refuses
+pub record Accepted (t : Terms) (existing : ℕ) : Type 0 where
+  pub option-low : 1 ≤ t .option
+  pub option-high : t .option ≤ 2
+  pub pension-age : PensionAgeIn t
+  pub term-high : t .term ≤ 20
+  pub lower-rate : 0 < tableRate t (t .years)
+  pub upper-rate : (t .months ≡ 0 → ⊥) → 0 < tableRate t (t .years + 1)
+  pub amount-low : 250 ≤ t .amount
+  pub whole : t .amount / 250 * 250 ≡ t .amount
+  pub under-cap : existing + t .amount * 100 ≤ 650000

@@ -1,0 +1,40 @@
+-- Document 01, "What each operation gives", Quote.
+-- Assumes nothing.
+use Prim.Native.Nat.{ℕ, _+_}
+use lib.Dec.{leb, eqb}
+use Rattle.common.specs.Choice.{pick}
+use Rattle.election.specs.declared.Terms.{Terms}
+use Rattle.election.specs.Rules.{refusalOf}
+use Rattle.election.specs.Price.{contributionOf}
+use Rattle.quotes.specs.declared.QuoteAnswer.{QuoteAnswer}
+use Rattle.quotes.specs.declared.QuoteAnswer.the-variants.{Refused, Made}
+use Rattle.quotes.specs.declared.Quoted.{Quoted}
+
+-- what a quote gives, in document 01's numbers: the refusal (0 none), the contribution, the next number, and the last
+-- number of the register that is handed back
+pub record QuoteNumbers : Type 0 where
+  pub refusal : ℕ
+  pub contribution : ℕ
+  pub next : ℕ
+  pub register : ℕ
+
+-- 1 to 8 as the terms are refused; then 9: last number 999,999 or more
+unfoldable pub quoteRefusal : Terms → ℕ → ℕ → ℕ
+quoteRefusal t existing last =
+    pick (eqb (refusalOf t existing) 0) (pick (leb 999999 last) 9 0) (refusalOf t existing)
+
+-- A refusal gives its number, zeros and the register unchanged; success the contribution and the last number plus 1,
+-- which the register then holds.
+unfoldable pub quoteOf : Terms → ℕ → ℕ → QuoteNumbers
+quoteOf t existing last =
+    pick (eqb (quoteRefusal t existing last) 0)
+    (record { refusal = 0; contribution = contributionOf t; next = last + 1; register = last + 1 })
+    (record { refusal = quoteRefusal t existing last; contribution = 0; next = 0; register = last })
+
+-- document 01's numbers for each case of an answer, beside the register
+abbrev pub answerNumbers : QuoteAnswer → ℕ → QuoteNumbers
+answerNumbers (Refused n) register = record { refusal = n; contribution = 0; next = 0; register = register }
+answerNumbers (Made c n) register = record { refusal = 0; contribution = c .0; next = n; register = register }
+
+abbrev pub numbersOf : Quoted → QuoteNumbers
+numbersOf q = answerNumbers (q .answer) (q .register .last)

@@ -1,0 +1,69 @@
+// Quotes with their numbers, and how much more pension the cap lets a member buy.
+ghost use mathlib.Core.Path.{_≡_};
+ghost use Rattle.quotes.specs.Quote.{quoteOf, numbersOf};
+ghost use Rattle.quotes.specs.Cap.{capDecisionOf, GreatestUnderCap};
+use election::Terms;
+use money::ContributionPence;
+use money::PensionPence;
+
+// The register of quotes: the last number that was given.
+pub struct Register {
+    pub last: u32,
+}
+
+pub enum QuoteAnswer {
+    Refused(u32),
+    Made {
+        contribution: ContributionPence,
+        number: u32,
+    },
+}
+
+// The answer to a request, with the register handed back.
+pub struct Quoted {
+    pub answer: QuoteAnswer,
+    pub register: Register,
+}
+
+// The last number of a register that is full.
+pub const FULL: u32 = 999999;
+
+fn refuse(n: u32, register: Register) -> Quoted
+    ensures { λ r. ⌜ r ≡ record { answer = QuoteAnswer.Refused n; register = register } ⌝ }
+{
+    Quoted {
+        answer: QuoteAnswer::Refused(n),
+        register,
+    }
+}
+
+// The contribution and the next number; or the first of the refusals 1 to 9, and the register as it was.
+pub fn quote(t: Terms, existing: PensionPence, register: Register) -> Quoted
+    ensures { λ r. ⌜ numbersOf r ≡ quoteOf t (existing .0) (register .last) ⌝ }
+{
+    let priced = election::price(t, existing);
+    if priced.refusal != 0 {
+        return refuse(priced.refusal, register);
+    }
+    if FULL <= register.last {
+        return refuse(9, register);
+    }
+    let number = register.last + 1;
+    Quoted {
+        answer: QuoteAnswer::Made {
+            contribution: priced.contribution,
+            number,
+        },
+        register: Register { last: number },
+    }
+}
+
+// The greatest multiple of £250, in pounds, that with the existing pension is at most the cap; 0 if none.
+pub fn cap_decision(existing: PensionPence) -> u32
+    ensures is { λ r. ⌜ r ≡ capDecisionOf (existing .0) ⌝ }
+    ensures greatest { λ r. ⌜ GreatestUnderCap (existing .0) r ⌝ }
+{
+    let left = PensionPence::of_pounds(election::CAP).less(existing);
+    let steps = left.whole_steps(PensionPence::of_pounds(election::STEP));
+    (steps * election::STEP as u64) as u32
+}
