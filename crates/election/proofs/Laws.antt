@@ -3,6 +3,7 @@
 use mathlib.Core.Bool.{Bool, true, false, not, _&&_, _||_}
 use mathlib.Core.Path.{_≡_, refl, sym, ap, subst, _∙_}
 use Prim.Native.Nat.{ℕ, _+_, _*_, _/_, _%_, _≤_, _<_}
+use native.Mathlib.Decide.{ℕ-discrete}
 use native.Mathlib.Omega.{arith}
 use lib.Dec.{T, ltb, leb, eqb}
 use borrow.Author.Tests.{ltb-false, eqb-true, eqb-false, eq-eqb, ne-eqb, not-false}
@@ -12,7 +13,7 @@ use Rattle.election.specs.declared.Terms.{Terms}
 use Rattle.election.specs.declared.Priced.{Priced}
 use Rattle.election.specs.Rate.{tableRate}
 use Rattle.election.specs.Rules.{wrongOption, wrongPensionAge, wrongTerm, wrongPayer, noLowerRate, noUpperRate, wrongAmount, aboveCap, refusalOf}
-use Rattle.election.specs.Price.{refused, accepted, pricedOf}
+use Rattle.election.specs.Price.{contributionOf, refused, accepted, pricedOf}
 use Rattle.election.specs.Told.{PensionAgeIn, TermsPass, Accepted}
 
 pub pension-age-in : (t : Terms) → wrongPensionAge t ≡ false → PensionAgeIn t
@@ -30,6 +31,16 @@ module _ (t : Terms) (existing : ℕ) where
   pub priced-accepted : refusalOf t existing ≡ 0 → pricedOf t existing ≡ accepted t
   unfolding pricedOf
   priced-accepted h = rw (eq-eqb _ _ h)
+
+  pub priced-refusal : pricedOf t existing .refusal ≡ refusalOf t existing
+  priced-refusal = go (ℕ-discrete (refusalOf t existing) 0)
+    where
+      go : Dec (refusalOf t existing ≡ 0) → pricedOf t existing .refusal ≡ refusalOf t existing
+      go (yes z) = rw (priced-accepted z) (sym z)
+      go (no h) = rw (priced-refused h)
+
+  pub priced-contribution : refusalOf t existing ≡ 0 → pricedOf t existing .contribution .0 ≡ contributionOf t
+  priced-contribution h = rw (priced-accepted h)
 
 -- A chain gives 0 only where its first test fails and the rest gives 0.
 passed : (b : Bool) (n rest : ℕ) → 0 < n → pick b n rest ≡ 0 → (b ≡ false) × (rest ≡ 0)

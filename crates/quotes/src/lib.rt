@@ -48,10 +48,11 @@ pub fn quote(t: Terms, existing: PensionPence, register: Register) -> Quoted
     if FULL <= register.last {
         return refuse(9, register);
     }
+    let contribution = priced.contribution;
     let number = register.last + 1;
     Quoted {
         answer: QuoteAnswer::Made {
-            contribution: priced.contribution,
+            contribution,
             number,
         },
         register: Register { last: number },

@@ -1,43 +1,46 @@
+-- `quotes::cap_decision` meets its contract: whole steps of £250 in what is left under the cap.
+-- Assumes nothing.
+use mathlib.Core.Path.{_≡_, ap, subst, sym, _∙_}
+use Prim.Native.Nat.{ℕ, _*_, _-_, _/_}
+use native.Mathlib.Omega.{arith}
 use borrow.Author.Needs.{needs}
+use Rattle.quotes.proofs.Cap.{cap-decision-greatest}
+use Rattle.quotes.specs.Cap.{capDecisionOf, GreatestUnderCap}
 use Rattle.quotes.proofs.cap_decision.Statement.{statement}
 use Rattle.quotes.proofs.cap_decision.Tie as tie
-use Rattle.quotes.proofs.cap_decision.Reads as reads
-use Rattle.quotes.proofs.cap_decision.Lts as lts
-use Rattle.money.proofs.PensionPence.less.Reads as less-reads
-use Rattle.money.proofs.PensionPence.of_pounds.Reads as of-pounds-reads
-use Rattle.money.proofs.PensionPence.whole_steps.Reads as whole-steps-reads
 
--- src/lib.rt:66:16
+steps : (c : tie.After-whole-steps) → c .whole-steps .result ≡ (650000 - c .before .before .before .before .args .existing .0) / 25000
+steps c = c .whole-steps .ensures ∙ rw (c .before .before .less .ensures, c .before .of-pounds2 .ensures, c .before .before .before .of-pounds .ensures)
+
+decided : (c : tie.After-whole-steps) → c .whole-steps .result * 250 ≡ capDecisionOf (c .before .before .before .before .args .existing .0)
+unfolding capDecisionOf
+decided c = ap (λ (n : ℕ). n * 250) (steps c)
+
 of-pounds-requires : tie.Need-of-pounds-requires
 of-pounds-requires c κs = search needs
 
--- src/lib.rt:66:9
 less-requires : tie.Need-less-requires
 less-requires c κs = search needs
 
--- src/lib.rt:67:34
 of-pounds-requires-2 : tie.Need-of-pounds-requires-2
 of-pounds-requires-2 c κs = search needs
 
--- src/lib.rt:67:9
 whole-steps-requires : tie.Need-whole-steps-requires
 whole-steps-requires c κs = search needs
 
--- src/lib.rt:68:14
 cast-result : tie.Need-cast-result
 cast-result c = search needs
 
--- src/lib.rt:68:6
 mul-result : tie.Need-mul-result
-mul-result c = ?
+mul-result c = omega (arith, steps c)
 
--- src/lib.rt:68:5
 cast-result-2 : tie.Need-cast-result-2
-cast-result-2 c = ?
+cast-result-2 c = omega (arith, steps c)
 
--- src/lib.rt:62:1
 returns : tie.Need-returns
-returns c = ?
+returns c = 
+    let is = decided c in
+    (is, subst (GreatestUnderCap _) (sym is) (cap-decision-greatest _))
 
 pub cap-decision-spec : {M : Type 1} → statement M
 cap-decision-spec =

@@ -1,4 +1,82 @@
+-- `quotes::quote` meets its contract: the terms' refusal, then a full register, then the quote.
+-- Assumes nothing.
+use mathlib.Core.Path.{_≡_, refl, sym, ap, _∙_}
+use Prim.Native.Nat.{ℕ, _+_, _≤_, _<_}
+use native.Mathlib.Omega.{arith}
+use borrow.Author.Needs.{needs}
+use borrow.Author.Tests.{eq-eqb, ne-eqb, le-leb, lt-leb}
+use Rattle.election.proofs.Laws.{priced-refusal, priced-contribution}
+use Rattle.election.specs.Price.{contributionOf, pricedOf}
+use Rattle.election.specs.Rules.{refusalOf}
+use Rattle.election.specs.declared.Priced.{Priced}
+use Rattle.election.specs.declared.Terms.{Terms}
+use Rattle.quotes.specs.Quote.{QuoteNumbers, quoteRefusal, quoteOf, numbersOf}
 use Rattle.quotes.proofs.quote.Statement.{statement}
+use Rattle.quotes.proofs.quote.Tie as tie
+
+told-refusal : (t : Terms) (existing : ℕ) {p : Priced} → p ≡ pricedOf t existing → p .refusal ≡ refusalOf t existing
+told-refusal t existing e = ap (λ (p : Priced). p .refusal) e ∙ priced-refusal t existing
+
+module _ (t : Terms) (existing last : ℕ) where
+  by-terms : (refusalOf t existing ≡ 0 → ⊥) → quoteRefusal t existing last ≡ refusalOf t existing
+  unfolding quoteRefusal
+  by-terms h = rw (ne-eqb _ _ h)
+
+  full : refusalOf t existing ≡ 0 → 999999 ≤ last → quoteRefusal t existing last ≡ 9
+  unfolding quoteRefusal
+  full z h = rw (eq-eqb _ _ z, le-leb _ _ h)
+
+  open-register : refusalOf t existing ≡ 0 → last < 999999 → quoteRefusal t existing last ≡ 0
+  unfolding quoteRefusal
+  open-register z h = rw (eq-eqb _ _ z, lt-leb _ _ h)
+
+  refused : (n : ℕ) → n ≡ quoteRefusal t existing last → (n ≡ 0 → ⊥)
+      → _≡_ {A = QuoteNumbers} (record { refusal = n; contribution = 0; next = 0; register = last }) (quoteOf t existing last)
+  unfolding quoteOf
+  refused n e some = rw (e, ne-eqb _ _ (λ z. some (e ∙ z)))
+
+  made : (k : ℕ) → k ≡ contributionOf t → quoteRefusal t existing last ≡ 0
+      → _≡_ {A = QuoteNumbers} (record { refusal = 0; contribution = k; next = last + 1; register = last + 1 }) (quoteOf t existing last)
+  unfolding quoteOf
+  made k e z = rw (e, eq-eqb _ _ z)
+
+price-requires : tie.Need-price-requires
+price-requires c κs = search needs
+
+refuse-requires : tie.Need-refuse-requires
+refuse-requires c κs = search needs
+
+returns : tie.Need-returns
+returns c = 
+    let told = told-refusal _ _ (c .before .before .before .price .ensures) in
+    let some = c .before .if1 .taken in
+    ap numbersOf (c .refuse .ensures) ∙ refused _ _ _ _ (told ∙ sym (by-terms _ _ _ (λ z. some (told ∙ z)))) some
+
+refuse-requires-2 : tie.Need-refuse-requires-2
+refuse-requires-2 c κs = search needs
+
+returns-2 : tie.Need-returns-2
+returns-2 c = 
+    let pass = sym (told-refusal _ _ (c .before .before .before .before .before .price .ensures)) ∙ c .before .before .before .if1 .left in
+    ap numbersOf (c .refuse2 .ensures) ∙ refused _ _ _ _ (sym (full _ _ _ pass (c .before .if2 .taken))) (λ z. omega arith)
+
+add-number : tie.Need-add-number
+add-number c = search needs
+
+returns-3 : tie.Need-returns-3
+returns-3 c = 
+    let paid = c .before .before .before .before .before .before .price .ensures in
+    let pass = sym (told-refusal _ _ paid) ∙ c .before .before .before .before .if1 .left in
+    made _ _ _ _ (ap (λ (p : Priced). p .contribution .0) paid ∙ priced-contribution _ _ pass) (open-register _ _ _ pass (c .before .before .if2 .left))
 
 pub quote-spec : {M : Type 1} → statement M
-quote-spec 𝓤 H 𝓜 𝓖 𝓡 = ?
+quote-spec =
+    tie.close
+    (tie.spec
+    price-requires
+    refuse-requires
+    returns
+    refuse-requires-2
+    returns-2
+    add-number
+    returns-3)

@@ -1,0 +1,20 @@
+-- The cap decision is the greatest multiple of £250 that fits.
+-- Assumes nothing.
+use mathlib.Core.Path.{_≡_}
+use Prim.Native.Nat.{ℕ, _+_, _*_, _-_, _/_, _%_, _≤_}
+use native.Mathlib.Omega.{arith}
+use Rattle.quotes.specs.Cap.{capDecisionOf, GreatestUnderCap}
+
+pub cap-decision-most : (existing : ℕ) → capDecisionOf existing ≤ 6500
+unfolding capDecisionOf
+cap-decision-most existing = omega arith
+
+pub cap-decision-greatest : (existing : ℕ) → GreatestUnderCap existing (capDecisionOf existing)
+unfolding capDecisionOf
+cap-decision-greatest existing =
+    record {
+      multiple = omega arith;
+      fits = λ h. omega arith;
+      none = λ h. omega arith;
+      greatest = λ x whole h. omega arith;
+    }
