@@ -3,7 +3,7 @@
 use mathlib.Core.Path.{_≡_, refl, ap, _∙_}
 use mathlib.Core.Bool.{Bool, true, false}
 use mathlib.Core.Logic.{⊎-elim}
-use Prim.Native.Nat.{ℕ, suc, _+_, _-_, _%_, _≤_, _<_, zero-le}
+use Prim.Native.Nat.{ℕ, zero, suc, _+_, _-_, _%_, _≤_, _<_, zero-le}
 use native.Mathlib.Nat.{le-refl, le-trans}
 use native.Mathlib.Decide.{le-ind}
 use native.Mathlib.Omega.{arith}
@@ -12,11 +12,16 @@ use lib.Dec.{ltb}
 use borrow.Author.Tests.{ltb-true, ltb-false}
 use Rattle.common.specs.Choice.{pick}
 use Rattle.common.proofs.Table.{length-tabulate, getD-tabulate}
-use Rattle.rates.specs.Rates.{tableOf, rateOf, rowOf, rateIn, lumpRateOf, Printed, LumpPrinted}
-use Rattle.rates.proofs.Entries.{Placed, by-positive, entry-none}
+use Rattle.rates.specs.Rates.{rateOf, rowOf, rateIn, lumpRateOf, Printed, LumpPrinted}
+use Rattle.rates.proofs.Entries.{entry-none}
 use Rattle.rates.proofs.Tables.{Known, known-or-empty}
 use Rattle.rates.proofs.Monthly.{Rules, rules, rate-placed}
 use Rattle.rates.proofs.LumpSum as lump
+
+-- what holds of 0, and of n where n is above 0, holds of n
+by-positive : (P : ℕ → Type 0) (n : ℕ) → P 0 → (0 < n → P n) → P n
+by-positive P zero none some = none
+by-positive P (suc n) none some = some (omega arith)
 
 rate-known : (o p age term : ℕ) → 0 < rateOf o p age term → Known o p
 unfolding rateOf
@@ -85,7 +90,7 @@ rate-in-row o p age term = by (ltb term 1) (ltb 20 term) refl refl
 
 -- the print rule of Table S, both ways
 pub lump-printed : (o age : ℕ) → 0 < lumpRateOf o age → LumpPrinted o age
-lump-printed = lump.lump-printed
+lump-printed = lump.printed
 
 pub lump-shown : (o age : ℕ) → LumpPrinted o age → 0 < lumpRateOf o age
 lump-shown o age r = lump.rules o age r .shown

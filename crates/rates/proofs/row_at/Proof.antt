@@ -12,8 +12,6 @@ use Rattle.rates.specs.Rates.{entryOf}
 use Rattle.rates.proofs.Entries.{place, entry-at}
 use Rattle.rates.proofs.row_at.Statement.{statement}
 use Rattle.rates.proofs.row_at.Tie as tie
-use Rattle.rates.proofs.row_at.Reads as reads
-use Rattle.rates.proofs.row_at.Lts as lts
 
 abbrev Inv-loop : tie.InvT-loop
 Inv-loop table age row₀ start k₀ row k =
