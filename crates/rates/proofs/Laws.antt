@@ -64,9 +64,13 @@ pub rate-rises : (o p a b term : ℕ) → a ≤ b → 0 < rateOf o p b term → 
 rate-rises o p a b term le last =
     by-positive (λ x. x ≤ rateOf o p b term) _ zero-le λ first.
     le-ind (λ (n : ℕ). Printed o p n term → rateOf o p a term ≤ rateOf o p n term) (λ r. le-refl _)
-    (λ m h above r. le-trans (above (omega (arith, printed o p a term first)))
-      (rules o p m term (omega arith) (omega (arith, printed o p a term first)) .column (shown o p (suc m) term r)))
-    b le (printed o p b term last)
+    (λ m h above r. let here = between m h first r in le-trans (above here) (step m here r)) b le (printed o p b term last)
+  where
+    between : (m : ℕ) → a ≤ m → 0 < rateOf o p a term → Printed o p (suc m) term → Printed o p m term
+    between m h first r = omega (arith, printed o p a term first)
+
+    step : (m : ℕ) → Printed o p m term → Printed o p (suc m) term → rateOf o p m term ≤ rateOf o p (suc m) term
+    step m here r = rules o p m term (omega arith) (omega arith) .column (shown o p (suc m) term r)
 
 pub row-length : (o p age : ℕ) → length (rowOf o p age) ≡ 20
 unfolding rowOf

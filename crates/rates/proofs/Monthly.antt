@@ -52,7 +52,7 @@ facts : (o p k : ℕ) → Known o p → k < 1020
 facts o p k known h =
     simp (getD-drop, zero-add, add-zero) at
     (every-at (rules-at p) 0 (tableOf o p) (and-right (eqb (length (tableOf o p)) 1020) _ (passed o p known)) k
-      (omega (arith, full o p known)))
+    (omega (arith, full o p known)))
 
 rate-at : (o p age term : ℕ) → Placed age term → rateOf o p age term ≡ getD (tableOf o p) (place age term) 0
 unfolding rateOf
@@ -82,13 +82,13 @@ rules o p age term known placed =
       shown = λ h. omega (arith, f .1 .1 .0 (omega arith));
       before = λ h. omega (arith, f .1 .1 .1 .0 (omega arith));
       row = λ h.
-        let there = rate-placed o p age (suc term) h in
-        let next : place age (suc term) ≡ k + 1 = omega arith in
-        let y = rw next at (rate-at o p age (suc term) there) in
-        omega (arith, f .1 .1 .1 .1 .0 (omega arith));
+          let there = rate-placed o p age (suc term) h in
+          let next : place age (suc term) ≡ k + 1 = omega arith in
+          let y = rw next at (rate-at o p age (suc term) there) in
+          omega (arith, f .1 .1 .1 .1 .0 (omega arith));
       column = λ h.
-        let there = rate-placed o p (suc age) term h in
-        let next : place (suc age) term ≡ k + 20 = omega arith in
-        let z = rw next at (rate-at o p (suc age) term there) in
-        omega (arith, f .1 .1 .1 .1 .1 .0 (omega arith));
+          let there = rate-placed o p (suc age) term h in
+          let next : place (suc age) term ≡ k + 20 = omega arith in
+          let z = rw next at (rate-at o p (suc age) term there) in
+          omega (arith, f .1 .1 .1 .1 .1 .0 (omega arith));
     }

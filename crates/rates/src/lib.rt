@@ -3,9 +3,9 @@ ghost use mathlib.Core.Path.{_≡_};
 ghost use Rattle.common.specs.Table.{tabulate};
 ghost use Rattle.rates.specs.Rates.{entryOf, rowOf, rateIn, lumpRateOf};
 
-mod personal;
 mod dependant;
 mod lump_sum;
+mod personal;
 
 // The line of a monthly table for an age; zeros where it has none.
 fn row_at(table: &[u32; 1020], age: u32) -> [u32; 20]
