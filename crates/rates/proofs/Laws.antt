@@ -2,7 +2,6 @@
 -- Assumes nothing.
 use mathlib.Core.Path.{_≡_, refl, ap, _∙_}
 use mathlib.Core.Bool.{Bool, true, false}
-use mathlib.Core.Logic.{⊎-elim}
 use Prim.Native.Nat.{ℕ, zero, suc, _+_, _-_, _%_, _≤_, _<_, zero-le}
 use native.Mathlib.Nat.{le-refl, le-trans}
 use native.Mathlib.Decide.{le-ind}
@@ -13,20 +12,13 @@ use borrow.Author.Tests.{ltb-true, ltb-false}
 use Rattle.common.specs.Choice.{pick}
 use Rattle.common.proofs.Table.{length-tabulate, getD-tabulate}
 use Rattle.rates.specs.Rates.{rateOf, rowOf, rateIn, lumpRateOf, Printed, LumpPrinted}
-use Rattle.rates.proofs.Entries.{entry-none}
-use Rattle.rates.proofs.Tables.{Known, known-or-empty}
-use Rattle.rates.proofs.Monthly.{Rules, rules, rate-placed}
+use Rattle.rates.proofs.Monthly.{Rules, rules, rate-known, rate-placed}
 use Rattle.rates.proofs.LumpSum as lump
 
 -- what holds of 0, and of n where n is above 0, holds of n
 by-positive : (P : ℕ → Type 0) (n : ℕ) → P 0 → (0 < n → P n) → P n
 by-positive P zero none some = none
 by-positive P (suc n) none some = some (omega arith)
-
-rate-known : (o p age term : ℕ) → 0 < rateOf o p age term → Known o p
-unfolding rateOf
-rate-known o p age term h =
-    ⊎-elim (λ k. k) (λ e. absurd (omega (arith, entry-none age term, rw e at h))) (known-or-empty o p)
 
 rate-rules : (o p age term : ℕ) → 0 < rateOf o p age term → Rules o p age term
 rate-rules o p age term h = rules o p age term (rate-known o p age term h) (rate-placed o p age term h)

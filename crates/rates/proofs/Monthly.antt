@@ -1,6 +1,7 @@
 -- The rules of the monthly tables: one test over all eight, computed, and the law that carries it to the rate at each age and term.
 -- Assumes nothing.
 use mathlib.Core.Path.{_≡_}
+use mathlib.Core.Logic.{⊎-elim}
 use mathlib.Core.Bool.{Bool, _&&_}
 use mathlib.Core.List.{List, [], _∷_}
 use Prim.Native.Nat.{ℕ, suc, _+_, _/_, _%_, _≤_, _<_}
@@ -12,8 +13,8 @@ use lib.Seq.{getD-drop}
 use Rattle.common.proofs.Tests.{and-left, and-right}
 use Rattle.rates.specs.Rates.{tableOf, rateOf}
 use Rattle.rates.proofs.Walk.{Rule, always, given, Hold, every, every-at, all, all-at}
-use Rattle.rates.proofs.Entries.{Placed, place, entry-at, entry-placed}
-use Rattle.rates.proofs.Tables.{Known}
+use Rattle.rates.proofs.Entries.{Placed, place, entry-at, entry-placed, entry-none}
+use Rattle.rates.proofs.Tables.{Known, known-or-empty}
 
 -- the rules of an entry x of a table; y is the next of its row, z the next of its column
 abbrev rules-of : (p age term x y z : ℕ) → List Rule
@@ -58,9 +59,15 @@ rate-at : (o p age term : ℕ) → Placed age term → rateOf o p age term ≡ g
 unfolding rateOf
 rate-at o p age term = entry-at (tableOf o p) age term
 
+-- a rate above 0 has a table and a place in it
 pub rate-placed : (o p age term : ℕ) → 0 < rateOf o p age term → Placed age term
 unfolding rateOf
 rate-placed o p age term = entry-placed (tableOf o p) age term
+
+pub rate-known : (o p age term : ℕ) → 0 < rateOf o p age term → Known o p
+unfolding rateOf
+rate-known o p age term h =
+    ⊎-elim (λ k. k) (λ e. absurd (omega (arith, entry-none age term, rw e at h))) (known-or-empty o p)
 
 -- the rules of the rate at an age and a term
 pub record Rules (o p age term : ℕ) : Type 0 where
