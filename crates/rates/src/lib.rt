@@ -28,6 +28,7 @@ fn row_at(table: &[u32; 1020], age: u32) -> [u32; 20]
 }
 
 // The monthly rates at an age, for the terms 1 to 20; 0 where none is printed.
+// A call builds its table on the stack: fetch a row once for a contract, and take the rates from it.
 pub fn monthly_row(option: u32, pension_age: u32, age: u32) -> [u32; 20]
     ensures { λ r. ⌜ r ≡ rowOf option «pension_age» age ⌝ }
 {
