@@ -2,7 +2,7 @@
 ghost use mathlib.Core.Path.{_≡_};
 ghost use Prim.Native.Nat.{_+_, _*_, _-_, _/_, _<_, _^_};
 ghost use lib.Dec.{ltb};
-ghost use Rattle.rounding.specs.Nearest.{combine};
+ghost use Rattle.rounding.specs.Nearest.{blend, combine};
 ghost use Rattle.money.specs.Money.{pension, contribution};
 
 pub struct PensionPence(pub u64);
@@ -56,6 +56,14 @@ impl PensionPence {
         self.0 / step.0
     }
 
+    // m twelfths of the way to another.
+    pub fn blend(self, other: PensionPence, m: u32) -> Self
+        requires { ⌜ (self .0 < 2 ^ 32) × (other .0 < 2 ^ 32) ⌝ }
+        ensures { λ r. ⌜ r ≡ pension (blend m (self .0) (other .0)) ⌝ }
+    {
+        PensionPence(rounding::blend(m, self.0 as u32, other.0 as u32))
+    }
+
     // The lower table's figure, combined with the upper's where the pension age has m odd months.
     pub fn combine(self, upper: PensionPence, m: u32) -> Self
         requires { ⌜ (self .0 < 2 ^ 32) × (upper .0 < 2 ^ 32) ⌝ }
@@ -64,7 +72,7 @@ impl PensionPence {
         if m == 0 {
             return self;
         }
-        PensionPence(rounding::blend(m, self.0 as u32, upper.0 as u32))
+        self.blend(upper, m)
     }
 }
 
@@ -90,6 +98,14 @@ impl ContributionPence {
         ContributionPence(self.0 * n as u64)
     }
 
+    // m twelfths of the way to another.
+    pub fn blend(self, other: ContributionPence, m: u32) -> Self
+        requires { ⌜ (self .0 < 2 ^ 32) × (other .0 < 2 ^ 32) ⌝ }
+        ensures { λ r. ⌜ r ≡ contribution (blend m (self .0) (other .0)) ⌝ }
+    {
+        ContributionPence(rounding::blend(m, self.0 as u32, other.0 as u32))
+    }
+
     // The lower table's figure, combined with the upper's where the pension age has m odd months.
     pub fn combine(self, upper: ContributionPence, m: u32) -> Self
         requires { ⌜ (self .0 < 2 ^ 32) × (upper .0 < 2 ^ 32) ⌝ }
@@ -98,6 +114,6 @@ impl ContributionPence {
         if m == 0 {
             return self;
         }
-        ContributionPence(rounding::blend(m, self.0 as u32, upper.0 as u32))
+        self.blend(upper, m)
     }
 }

@@ -43,7 +43,7 @@ returns-2 : tie.Need-returns-2
 unfolding aboveCap
 returns-2 c = let e = c .before .before .before .before .before .before .args .existing .0 in
     let low : ltb 650000 e ≡ false =
-        rw (c .before .before .before .before .before .of-pounds .ensures) at (sym (c .before .before .before .before .is-above .ensures) ∙ c .before .before .before .if1 .left) in
+    rw (c .before .before .before .before .before .of-pounds .ensures) at (sym (c .before .before .before .before .is-above .ensures) ∙ c .before .before .before .if1 .left) in
     c .is-above2 .ensures
     ∙ rw (c .before .less .ensures, c .before .before .of-pounds2 .ensures, c .before .before .before .before .before .of-pounds .ensures) (under e _ low)
 

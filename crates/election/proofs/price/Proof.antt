@@ -42,7 +42,7 @@ refuse-requires : tie.Need-refuse-requires
 refuse-requires c κs = search needs
 
 returns : tie.Need-returns
-returns c = 
+returns c =
     let told = c .before .before .terms-refusal .ensures in
     let some = c .before .if1 .taken in
     c .refuse .ensures ∙ first _ _ _ (told .first _ some) some
@@ -63,7 +63,7 @@ rate-of-requires-2 : tie.Need-rate-of-requires-2
 rate-of-requires-2 c κs = search needs
 
 price-refusal-requires : tie.Need-price-refusal-requires
-price-refusal-requires c κs = 
+price-refusal-requires c κs =
     let t = c .before .before .before .before .before .before .before .args .t in
     record {
       pass = c .before .before .before .before .before .before .terms-refusal .ensures .pass (c .before .before .before .before .before .if1 .left);
@@ -78,13 +78,13 @@ returns-2 : tie.Need-returns-2
 returns-2 c = c .refuse2 .ensures ∙ first _ _ _ (c .before .before .price-refusal .ensures) (c .before .if2 .taken)
 
 cost-requires : tie.Need-cost-requires
-cost-requires c κs = 
+cost-requires c κs =
     let t = c .before .before .before .before .before .before .before .before .before .args .t in
     let low = accepted-facts t _ (sym (c .before .price-refusal .ensures) ∙ c .if2 .left) in
     (omega (arith, low .under-cap), omega (arith, c .before .before .before .rate-of .ensures ∙ ap (foundIn t) (c .before .before .before .before .before .before .rates-at .ensures) ∙ found t _, table-rate-most t (t .years)), omega (arith, c .before .before .rate-of2 .ensures ∙ ap (foundIn t) (c .before .before .before .before .upper-rates-at .ensures), found-upper-most t (t .years + 1)))
 
 returns-3 : tie.Need-returns-3
-returns-3 c = 
+returns-3 c =
     let t = c .before .before .before .before .before .before .before .before .before .before .args .t in
     let lower-is = c .before .before .before .before .rate-of .ensures ∙ ap (foundIn t) (c .before .before .before .before .before .before .before .rates-at .ensures) ∙ found t _ in
     whole t _ (sym (c .before .before .price-refusal .ensures) ∙ c .before .if2 .left)

@@ -14,9 +14,9 @@ wrong-option-requires c κs = search needs
 returns : tie.Need-returns
 unfolding refusalOf
 returns c = record {
-      first = λ e h. rw (sym (c .before .wrong-option .ensures) ∙ c .if1 .taken);
-      pass = λ z. absurd (omega arith);
-    }
+  first = λ e h. rw (sym (c .before .wrong-option .ensures) ∙ c .if1 .taken);
+  pass = λ z. absurd (omega arith);
+}
 
 wrong-pension-age-requires : tie.Need-wrong-pension-age-requires
 wrong-pension-age-requires c κs = search needs
@@ -24,16 +24,16 @@ wrong-pension-age-requires c κs = search needs
 returns-2 : tie.Need-returns-2
 unfolding refusalOf
 returns-2 c = record {
-      first = λ e h. rw (sym (c .before .before .before .wrong-option .ensures) ∙ c .before .before .if1 .left, sym (c .before .wrong-pension-age .ensures) ∙ c .if2 .taken);
-      pass = λ z. absurd (omega arith);
-    }
+  first = λ e h. rw (sym (c .before .before .before .wrong-option .ensures) ∙ c .before .before .if1 .left, sym (c .before .wrong-pension-age .ensures) ∙ c .if2 .taken);
+  pass = λ z. absurd (omega arith);
+}
 
 returns-3 : tie.Need-returns-3
 unfolding refusalOf wrongTerm
 returns-3 c = record {
-      first = λ e h. rw (sym (c .before .before .before .before .before .wrong-option .ensures) ∙ c .before .before .before .before .if1 .left, sym (c .before .before .before .wrong-pension-age .ensures) ∙ c .before .before .if2 .left, lt-ltb _ _ (c .if3 .taken));
-      pass = λ z. absurd (omega arith);
-    }
+  first = λ e h. rw (sym (c .before .before .before .before .before .wrong-option .ensures) ∙ c .before .before .before .before .if1 .left, sym (c .before .before .before .wrong-pension-age .ensures) ∙ c .before .before .if2 .left, lt-ltb _ _ (c .if3 .taken));
+  pass = λ z. absurd (omega arith);
+}
 
 wrong-payer-requires : tie.Need-wrong-payer-requires
 wrong-payer-requires c κs = search needs
@@ -41,21 +41,21 @@ wrong-payer-requires c κs = search needs
 returns-4 : tie.Need-returns-4
 unfolding refusalOf wrongTerm
 returns-4 c = record {
-      first = λ e h. rw (sym (c .before .before .before .before .before .before .before .wrong-option .ensures) ∙ c .before .before .before .before .before .before .if1 .left, sym (c .before .before .before .before .before .wrong-pension-age .ensures) ∙ c .before .before .before .before .if2 .left, le-ltb _ _ (c .before .before .if3 .left), sym (c .before .wrong-payer .ensures) ∙ c .if4 .taken);
-      pass = λ z. absurd (omega arith);
-    }
+  first = λ e h. rw (sym (c .before .before .before .before .before .before .before .wrong-option .ensures) ∙ c .before .before .before .before .before .before .if1 .left, sym (c .before .before .before .before .before .wrong-pension-age .ensures) ∙ c .before .before .before .before .if2 .left, le-ltb _ _ (c .before .before .if3 .left), sym (c .before .wrong-payer .ensures) ∙ c .if4 .taken);
+  pass = λ z. absurd (omega arith);
+}
 
 returns-5 : tie.Need-returns-5
 unfolding wrongTerm
 returns-5 c = record {
-      first = λ e h. absurd (h refl);
-      pass = λ z. record {
-        option = sym (c .before .before .before .before .before .before .before .wrong-option .ensures) ∙ c .before .before .before .before .before .before .if1 .left;
-        pension-age = sym (c .before .before .before .before .before .wrong-pension-age .ensures) ∙ c .before .before .before .before .if2 .left;
-        term = le-ltb _ _ (c .before .before .if3 .left);
-        payer = sym (c .before .wrong-payer .ensures) ∙ c .if4 .left;
-      };
-    }
+  first = λ e h. absurd (h refl);
+  pass = λ z. record {
+    option = sym (c .before .before .before .before .before .before .before .wrong-option .ensures) ∙ c .before .before .before .before .before .before .if1 .left;
+    pension-age = sym (c .before .before .before .before .before .wrong-pension-age .ensures) ∙ c .before .before .before .before .if2 .left;
+    term = le-ltb _ _ (c .before .before .if3 .left);
+    payer = sym (c .before .wrong-payer .ensures) ∙ c .if4 .left;
+  };
+}
 
 pub terms-refusal-spec : {M : Type 1} → statement M
 terms-refusal-spec =

@@ -38,7 +38,7 @@ cast-result-2 : tie.Need-cast-result-2
 cast-result-2 c = omega (arith, steps c)
 
 returns : tie.Need-returns
-returns c = 
+returns c =
     let is = decided c in
     (is, subst (GreatestUnderCap _) (sym is) (cap-decision-greatest _))
 

@@ -47,7 +47,7 @@ refuse-requires : tie.Need-refuse-requires
 refuse-requires c κs = search needs
 
 returns : tie.Need-returns
-returns c = 
+returns c =
     let told = told-refusal _ _ (c .before .before .before .price .ensures) in
     let some = c .before .if1 .taken in
     ap numbersOf (c .refuse .ensures) ∙ refused _ _ _ _ (told ∙ sym (by-terms _ _ _ (λ z. some (told ∙ z)))) some
@@ -56,7 +56,7 @@ refuse-requires-2 : tie.Need-refuse-requires-2
 refuse-requires-2 c κs = search needs
 
 returns-2 : tie.Need-returns-2
-returns-2 c = 
+returns-2 c =
     let pass = sym (told-refusal _ _ (c .before .before .before .before .before .price .ensures)) ∙ c .before .before .before .if1 .left in
     ap numbersOf (c .refuse2 .ensures) ∙ refused _ _ _ _ (sym (full _ _ _ pass (c .before .if2 .taken))) (λ z. omega arith)
 
@@ -64,7 +64,7 @@ add-number : tie.Need-add-number
 add-number c = search needs
 
 returns-3 : tie.Need-returns-3
-returns-3 c = 
+returns-3 c =
     let paid = c .before .before .before .before .before .before .price .ensures in
     let pass = sym (told-refusal _ _ paid) ∙ c .before .before .before .before .if1 .left in
     made _ _ _ _ (ap (λ (p : Priced). p .contribution .0) paid ∙ priced-contribution _ _ pass) (open-register _ _ _ pass (c .before .before .if2 .left))

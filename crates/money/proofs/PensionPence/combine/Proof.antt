@@ -1,28 +1,21 @@
 -- `money::PensionPence::combine` meets its contract: only odd months blend.
 -- Assumes nothing.
-use mathlib.Core.Path.{ap}
 use borrow.Author.Needs.{needs}
-use Rattle.common.proofs.Tests.{tests}
+use borrow.Author.Tests.{eq-eqb, ne-eqb}
 use Rattle.rounding.specs.Nearest.{combine}
 use Rattle.money.proofs.PensionPence.combine.Statement.{statement}
 use Rattle.money.proofs.PensionPence.combine.Tie as tie
 
 returns : tie.Need-returns
 unfolding combine
-returns c = search tests
-
-cast-blend : tie.Need-cast-blend
-cast-blend c = search needs
-
-cast-blend-2 : tie.Need-cast-blend-2
-cast-blend-2 c = search needs
+returns c = rw (eq-eqb _ _ (c .if1 .taken))
 
 blend-requires : tie.Need-blend-requires
 blend-requires c κs = search needs
 
 returns-2 : tie.Need-returns-2
 unfolding combine
-returns-2 c = search (tests, ← c .blend .ensures)
+returns-2 c = rw (ne-eqb _ _ (c .before .if1 .left)) (c .blend .ensures)
 
 pub combine-spec : {M : Type 1} → statement M
-combine-spec = tie.close (tie.spec returns cast-blend cast-blend-2 blend-requires returns-2)
+combine-spec = tie.close (tie.spec returns blend-requires returns-2)
