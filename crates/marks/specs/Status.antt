@@ -1,0 +1,23 @@
+-- The status of a contract, 0 to 6.
+-- Assumes nothing.
+use mathlib.Core.Bool.{Bool, _&&_}
+use mathlib.Core.List.{List}
+use Prim.Native.Nat.{ℕ, _*_}
+use lib.Dec.{ltb, leb, eqb}
+use lib.ListN.{length}
+use Rattle.common.specs.Choice.{pick}
+use Rattle.marks.specs.Counts.{lastOr, allPaid, paidThrough, finalGap}
+
+-- Marks and status: a contract that has stopped, by b: ceased or refunded
+unfoldable pub stoppedOf : ℕ → ℕ
+stoppedOf b = pick (leb 12 b) 4 5
+
+-- Marks and status: of a term in years, 0 for a lump sum, and lawful marks
+unfoldable pub statusOf : ℕ → List ℕ → ℕ
+statusOf term ms =
+    pick (eqb term 0) 6
+    (pick (eqb (length ms) 0) 0
+    (pick (eqb (lastOr 0 ms) 1 && ltb (length ms) (12 * term)) 1
+    (pick ((leb 1 (finalGap ms) && leb (finalGap ms) 11) && ltb (length ms) (12 * term)) 2
+    (pick (eqb (length ms) (12 * term) && allPaid ms) 3
+    (stoppedOf (paidThrough ms))))))
