@@ -1,6 +1,7 @@
 -- Which marks are lawful: 0 missed, 1 paid, 2 ended by notice, one for each elapsed month of the contract.
 -- Assumes nothing.
-use mathlib.Core.List.{List, [], _∷_, _++_}
+use mathlib.Core.List.{List, _∷_, _++_}
+use mathlib.Core.Logic.{_⊎_}
 use mathlib.Core.Path.{_≡_}
 use Prim.Native.Nat.{ℕ, suc, _<_, _≤_}
 use lib.ListN.{length, take, getD, replicate}
