@@ -1,0 +1,4 @@
+pub mod Lists
+pub mod Counts
+pub mod Lawful
+pub mod Steps

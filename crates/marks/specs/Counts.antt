@@ -2,7 +2,7 @@
 -- Assumes nothing.
 use mathlib.Core.Bool.{Bool, true, false, _&&_}
 use mathlib.Core.List.{List, [], _∷_}
-use Prim.Native.Nat.{ℕ, zero, suc}
+use Prim.Native.Nat.{ℕ, suc, _+_}
 use lib.Dec.{ltb, eqb}
 use lib.ListN.{length}
 use Rattle.common.specs.Choice.{pick}
@@ -20,7 +20,7 @@ allPaid (m ∷ ms) = eqb m 1 && allPaid ms
 -- Marks and status: paid months
 unfoldable pub paidMonths : List ℕ → ℕ
 paidMonths [] = 0
-paidMonths (m ∷ ms) = pick (eqb m 1) (suc (paidMonths ms)) (paidMonths ms)
+paidMonths (m ∷ ms) = pick (eqb m 1) 1 0 + paidMonths ms
 
 -- Marks and status: b, the number of months up to and including the last paid one, 0 if none
 unfoldable pub paidThrough : List ℕ → ℕ

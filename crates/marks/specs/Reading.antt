@@ -1,7 +1,7 @@
 -- The marks read one by one from the left, as the code reads them.
 -- Assumes nothing.
 use mathlib.Core.List.{List, [], _∷_}
-use Prim.Native.Nat.{ℕ, suc, _+_, _*_, _-_, _^_}
+use Prim.Native.Nat.{ℕ, suc, _+_, _*_, _-_, _^_, _≤_}
 use lib.Dec.{ltb, leb, eqb}
 use lib.ListN.{length}
 use Rattle.common.specs.Choice.{pick}
@@ -56,6 +56,12 @@ readOn r (m ∷ ms) = readOn (stepOf r m) ms
 
 abbrev pub readingOf : List ℕ → Reading
 readingOf ms = readOn startOf ms
+
+-- a reading of at most n marks
+pub record Within (r : Reading) (n : ℕ) : Type 0 where
+  pub count-most : r .count ≤ n
+  pub parts-most : r .through + r .gap ≤ r .count
+  pub paid-most : r .paid ≤ r .through
 
 -- Settle: 10 more marks than 12 × term, then the marks from the left
 unfoldable pub marksOf : ℕ → List ℕ → Reading
