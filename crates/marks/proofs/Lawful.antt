@@ -66,7 +66,8 @@ one-or-two zero h z = absurd (z refl)
 one-or-two (suc zero) h z = inl refl
 one-or-two (suc (suc m)) h z = inr (omega arith)
 
-ended-last : (xs ys : List ℕ) → Lawful (xs ++ (2 ∷ ys)) → lastOr 0 (xs ++ (2 ∷ ys)) ≡ 2
+-- marks in which there is a 2 have it last
+pub ended-last : (xs ys : List ℕ) → Lawful (xs ++ (2 ∷ ys)) → lastOr 0 (xs ++ (2 ∷ ys)) ≡ 2
 ended-last xs ys =
     by-the-last
     (λ (zs : List ℕ). Lawful (xs ++ (2 ∷ zs)) → lastOr 0 (xs ++ (2 ∷ zs)) ≡ 2)

@@ -2,3 +2,7 @@ pub mod Lists
 pub mod Counts
 pub mod Lawful
 pub mod Steps
+pub mod Refusals
+pub mod Through
+pub mod Term
+pub mod StatusOf

@@ -32,7 +32,7 @@ either : {A : Type 0} (P : A → Type 0) (b : Bool) {x y : A} → P x → P y �
 either P true p q = p
 either P false p q = q
 
-refused-within : (n i k : ℕ) → Within (refusedOf n i) k
+pub refused-within : (n i k : ℕ) → Within (refusedOf n i) k
 refused-within n i k = record { count-most = omega arith; parts-most = omega arith; paid-most = omega arith }
 
 step-within : (r : Reading) (m n : ℕ) → Within r n → Within (stepOf r m) (suc n)

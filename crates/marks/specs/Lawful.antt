@@ -3,7 +3,7 @@
 use mathlib.Core.List.{List, _∷_, _++_}
 use mathlib.Core.Logic.{_⊎_}
 use mathlib.Core.Path.{_≡_}
-use Prim.Native.Nat.{ℕ, suc, _<_, _≤_}
+use Prim.Native.Nat.{ℕ, suc, _*_, _<_, _≤_}
 use lib.ListN.{length, take, getD, replicate}
 
 -- Marks and status: lawful marks
@@ -24,3 +24,8 @@ pub record FirstBad (ms : List ℕ) (n i : ℕ) : Type 0 where
   pub there : Lawful (take (suc i) ms) → ⊥
   -- 11 value above 2, else 12
   pub number : ((n ≡ 11) × (2 < getD ms i 0)) ⊎ ((n ≡ 12) × (getD ms i 0 ≤ 2))
+
+-- Settle: marks that are not refused for a term, 0 for a lump sum
+pub record LawfulFor (term : ℕ) (ms : List ℕ) : Type 0 where
+  pub few : length ms ≤ 12 * term
+  pub lawful : Lawful ms

@@ -17,7 +17,7 @@ unfoldable pub statusOf : ℕ → List ℕ → ℕ
 statusOf term ms =
     pick (eqb term 0) 6
     (pick (eqb (length ms) 0) 0
-    (pick (eqb (lastOr 0 ms) 1 && ltb (length ms) (12 * term)) 1
-    (pick ((leb 1 (finalGap ms) && leb (finalGap ms) 11) && ltb (length ms) (12 * term)) 2
+    (pick (ltb (length ms) (12 * term) && eqb (lastOr 0 ms) 1) 1
+    (pick (ltb (length ms) (12 * term) && (leb 1 (finalGap ms) && leb (finalGap ms) 11)) 2
     (pick (eqb (length ms) (12 * term) && allPaid ms) 3
     (stoppedOf (paidThrough ms))))))

@@ -1,0 +1,67 @@
+-- The status from the reading of lawful marks is the status of the marks.
+-- Assumes nothing.
+use mathlib.Core.Bool.{Bool, true, false, _&&_}
+use mathlib.Core.List.{List, [], _∷_}
+use mathlib.Core.Path.{_≡_, refl, sym, ap, _∙_}
+use Prim.Native.Nat.{ℕ, zero, suc, _+_, _*_, _<_, _≤_}
+use native.Mathlib.Omega.{arith}
+use native.Mathlib.Numerals.{one-add}
+use borrow.Author.Tests.{lt-ltb, le-ltb, le-leb, lt-leb, leb-true, leb-false, eq-eqb, ne-eqb}
+use lib.Dec.{ltb, leb, eqb, eqb·suc-suc, leb·suc-suc}
+use lib.ListN.{length}
+use Rattle.common.specs.Choice.{pick}
+use Rattle.marks.specs.Counts.{lastOr, allPaid, paidMonths, paidThrough, finalGap}
+use Rattle.marks.specs.Lawful.{Lawful, LawfulFor}
+use Rattle.marks.specs.Status.{stoppedOf, statusOf}
+use Rattle.marks.specs.Reading.{readingOf, countsOf, marksOf, statusFrom}
+use Rattle.marks.proofs.Term.{marks-counts}
+
+months-most : (ms : List ℕ) → paidMonths ms ≤ length ms
+unfolding paidMonths
+months-most [] = omega arith
+months-most (m ∷ ms) = go (eqb m 1) (months-most ms)
+  where
+    go : (t : Bool) → paidMonths ms ≤ length ms → pick t 1 0 + paidMonths ms ≤ suc (length ms)
+    go true h = omega arith
+    go false h = omega arith
+
+-- all marks are 1 where as many are
+all-paid : (ms : List ℕ) → eqb (paidMonths ms) (length ms) ≡ allPaid ms
+unfolding paidMonths allPaid
+all-paid [] = refl
+all-paid (m ∷ ms) = go (eqb m 1) (all-paid ms)
+  where
+    go : (t : Bool) → eqb (paidMonths ms) (length ms) ≡ allPaid ms
+        → eqb (pick t 1 0 + paidMonths ms) (suc (length ms)) ≡ (t && allPaid ms)
+    go true e = rw (one-add, eqb·suc-suc) e
+    go false e = ne-eqb (0 + paidMonths ms) (suc (length ms)) (λ p. omega (arith, months-most ms))
+
+-- a gap of one to eleven months
+open-gap : (gap s : ℕ) → pick (eqb gap 0) s (pick (ltb gap 12) 2 s) ≡ pick (leb 1 gap && leb gap 11) 2 s
+open-gap zero s = refl
+open-gap (suc gap) s =
+    rw (ne-eqb (suc gap) 0 (λ e. omega arith), le-leb 1 (suc gap) (omega arith), leb·suc-suc (suc gap) 11)
+
+-- a contract that has marks
+begun : (count months paid gap last s : ℕ) (all : Bool) → count ≤ months → eqb paid count ≡ all
+    → pick (leb months count) (pick (eqb paid months) 3 s) (pick (eqb last 1) 1 (pick (eqb gap 0) s (pick (ltb gap 12) 2 s)))
+    ≡ pick (ltb count months && eqb last 1) 1
+    (pick (ltb count months && (leb 1 gap && leb gap 11)) 2 (pick (eqb count months && all) 3 s))
+begun count months paid gap last s all h e = go (leb months count) refl
+  where
+    go : (t : Bool) → leb months count ≡ t
+        → pick t (pick (eqb paid months) 3 s) (pick (eqb last 1) 1 (pick (eqb gap 0) s (pick (ltb gap 12) 2 s)))
+        ≡ pick (ltb count months && eqb last 1) 1
+        (pick (ltb count months && (leb 1 gap && leb gap 11)) 2 (pick (eqb count months && all) 3 s))
+    go true t =
+        let over : count ≡ months = omega (arith, leb-true months count t) in
+        rw (le-ltb count months (omega arith), eq-eqb count months over, sym over, e)
+    go false t =
+        let running : count < months = leb-false months count t in
+        rw (lt-ltb count months running, ne-eqb count months (λ p. omega arith), open-gap gap s)
+
+pub status-lawful : (term : ℕ) (ms : List ℕ) → LawfulFor term ms → statusFrom term (marksOf term ms) ≡ statusOf term ms
+unfolding statusFrom statusOf
+status-lawful term ms h =
+    rw (marks-counts term ms h,
+      begun (length ms) (12 * term) (paidMonths ms) (finalGap ms) (lastOr 0 ms) (stoppedOf (paidThrough ms)) (allPaid ms) (h .few) (all-paid ms))
