@@ -50,11 +50,11 @@ lawful-follows ms m h =
       known = h .known ms [] m refl;
       begins = λ e z. ⊎-elim (λ p. omega arith) (λ p. omega arith) (h .begins m [] (alone ms e));
       resumes = λ e.
-      let g = gap-stands ms in
-      h .resumes (g .0) [] (finalGap ms) (ap (λ (l : List ℕ). l ++ (m ∷ [])) (g .1) ∙ rw (append-assoc, e));
+          let g = gap-stands ms in
+          h .resumes (g .0) [] (finalGap ms) (ap (λ (l : List ℕ). l ++ (m ∷ [])) (g .1) ∙ rw (append-assoc, e));
       ends = λ e.
-      let g = last-stands ms e in
-      h .ends (g .0) [] [] m (ap (λ (l : List ℕ). l ++ (m ∷ [])) (g .1) ∙ append-assoc (g .0) (2 ∷ []) (m ∷ []));
+          let g = last-stands ms e in
+          h .ends (g .0) [] [] m (ap (λ (l : List ℕ). l ++ (m ∷ [])) (g .1) ∙ append-assoc (g .0) (2 ∷ []) (m ∷ []));
     }
   where
     alone : (ns : List ℕ) → length ns ≡ 0 → ns ++ (m ∷ []) ≡ m ∷ []
@@ -80,15 +80,15 @@ follows-lawful ms m h f =
     record {
       known = λ xs ys a e. was-last ms xs ys m a e (λ p q. omega (arith, f .known)) (λ ws p. h .known xs ws a p);
       begins = λ a ys e.
-      was-last ms [] ys m a e
-      (λ p q. rw q at (one-or-two m (f .known) (f .begins (ap length p))))
-      (λ ws p. h .begins a ws p);
+          was-last ms [] ys m a e
+          (λ p q. rw q at (one-or-two m (f .known) (f .begins (ap length p))))
+          (λ ws p. h .begins a ws p);
       resumes = λ xs ys n e.
-      was-last ms (xs ++ replicate n 0) ys m 1 (e ∙ sym (append-assoc xs (replicate n 0) (1 ∷ ys)))
-      (λ p q. omega (arith, f .resumes q, rw (sym p) at (gap-holds xs n)))
-      (λ ws p. h .resumes xs ws n (p ∙ append-assoc xs (replicate n 0) (1 ∷ ws)));
+          was-last ms (xs ++ replicate n 0) ys m 1 (e ∙ sym (append-assoc xs (replicate n 0) (1 ∷ ys)))
+          (λ p q. omega (arith, f .resumes q, rw (sym p) at (gap-holds xs n)))
+          (λ ws p. h .resumes xs ws n (p ∙ append-assoc xs (replicate n 0) (1 ∷ ws)));
       ends = λ xs ys zs a e.
-      was-last ms (xs ++ (2 ∷ ys)) zs m a (e ∙ sym (append-assoc xs (2 ∷ ys) (a ∷ zs)))
-      (λ p q. sym q ∙ f .ends (rw p (ended-last xs ys (rw p at h))))
-      (λ ws p. h .ends xs ys ws a (p ∙ append-assoc xs (2 ∷ ys) (a ∷ ws)));
+          was-last ms (xs ++ (2 ∷ ys)) zs m a (e ∙ sym (append-assoc xs (2 ∷ ys) (a ∷ zs)))
+          (λ p q. sym q ∙ f .ends (rw p (ended-last xs ys (rw p at h))))
+          (λ ws p. h .ends xs ys ws a (p ∙ append-assoc xs (2 ∷ ys) (a ∷ ws)));
     }

@@ -35,32 +35,32 @@ next ms zero =
     by-test (eqb (lastOr 0 ms) 2)
     (λ t. is-bad 12 (rw t) (λ f. omega (arith, f .ends (eqb-true (lastOr 0 ms) 2 t))) (inr (refl, omega arith)))
     (λ t.
-      by-test (eqb (length ms) 0)
-      (λ u. is-bad 12 (rw (t, u)) (λ f. f .begins (eqb-true (length ms) 0 u) refl) (inr (refl, omega arith)))
-      (λ u.
-        goes-on
-        (record {
-          known = omega arith;
-          begins = λ e z. eqb-false (length ms) 0 u e;
-          resumes = λ e. omega arith;
-          ends = λ e. absurd (eqb-false (lastOr 0 ms) 2 t e);
-        })
-        (rw (t, u) (sym (counts-missed ms)))))
+    by-test (eqb (length ms) 0)
+    (λ u. is-bad 12 (rw (t, u)) (λ f. f .begins (eqb-true (length ms) 0 u) refl) (inr (refl, omega arith)))
+    (λ u.
+    goes-on
+    (record {
+      known = omega arith;
+      begins = λ e z. eqb-false (length ms) 0 u e;
+      resumes = λ e. omega arith;
+      ends = λ e. absurd (eqb-false (lastOr 0 ms) 2 t e);
+    })
+    (rw (t, u) (sym (counts-missed ms)))))
 next ms (suc zero) =
     by-test (eqb (lastOr 0 ms) 2)
     (λ t. is-bad 12 (rw t) (λ f. omega (arith, f .ends (eqb-true (lastOr 0 ms) 2 t))) (inr (refl, omega arith)))
     (λ t.
-      by-test (leb 12 (finalGap ms))
-      (λ u. is-bad 12 (rw (t, u)) (λ f. omega (arith, f .resumes refl, leb-true 12 (finalGap ms) u)) (inr (refl, omega arith)))
-      (λ u.
-        goes-on
-        (record {
-          known = omega arith;
-          begins = λ e z. omega arith;
-          resumes = λ e. leb-false 12 (finalGap ms) u;
-          ends = λ e. absurd (eqb-false (lastOr 0 ms) 2 t e);
-        })
-        (rw (t, u) (sym (counts-paid ms)))))
+    by-test (leb 12 (finalGap ms))
+    (λ u. is-bad 12 (rw (t, u)) (λ f. omega (arith, f .resumes refl, leb-true 12 (finalGap ms) u)) (inr (refl, omega arith)))
+    (λ u.
+    goes-on
+    (record {
+      known = omega arith;
+      begins = λ e z. omega arith;
+      resumes = λ e. leb-false 12 (finalGap ms) u;
+      ends = λ e. absurd (eqb-false (lastOr 0 ms) 2 t e);
+    })
+    (rw (t, u) (sym (counts-paid ms)))))
 next ms (suc (suc zero)) =
     goes-on
     (record { known = omega arith; begins = λ e z. omega arith; resumes = λ e. omega arith; ends = λ e. refl })
@@ -143,9 +143,9 @@ first-only ms n k i j a b =
     let place : i ≡ j = omega (arith, earlier ms n k i j a b, earlier ms k n j i b a) in
     let mark : getD ms i 0 ≡ getD ms j 0 = rw place in (
       ⊎-elim
-      (λ p. ⊎-elim (λ q. omega (arith, p, q)) (λ q. omega (arith, p, q)) (b .number))
-      (λ p. ⊎-elim (λ q. omega (arith, p, q)) (λ q. omega (arith, p, q)) (b .number))
-      (a .number),
+          (λ p. ⊎-elim (λ q. omega (arith, p, q)) (λ q. omega (arith, p, q)) (b .number))
+          (λ p. ⊎-elim (λ q. omega (arith, p, q)) (λ q. omega (arith, p, q)) (b .number))
+          (a .number),
       place,
     )
 

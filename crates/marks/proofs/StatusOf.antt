@@ -63,5 +63,7 @@ begun count months paid gap last s all h e = go (leb months count) refl
 pub status-lawful : (term : ℕ) (ms : List ℕ) → LawfulFor term ms → statusFrom term (marksOf term ms) ≡ statusOf term ms
 unfolding statusFrom statusOf
 status-lawful term ms h =
-    rw (marks-counts term ms h,
-      begun (length ms) (12 * term) (paidMonths ms) (finalGap ms) (lastOr 0 ms) (stoppedOf (paidThrough ms)) (allPaid ms) (h .few) (all-paid ms))
+    rw (
+      marks-counts term ms h,
+      begun (length ms) (12 * term) (paidMonths ms) (finalGap ms) (lastOr 0 ms) (stoppedOf (paidThrough ms)) (allPaid ms) (h .few) (all-paid ms),
+    )

@@ -19,6 +19,7 @@ first m ms true e h =
     paid : (i : ℕ) → 1 ≡ suc i → getD (m ∷ ms) i 0 ≡ 1
     paid zero p = eqb-true m 1 e
     paid (suc i) p = omega arith
+
     later : (i : ℕ) → 1 ≤ i → getD (m ∷ ms) i 0 ≡ 1 → ⊥
     later zero p = omega arith
     later (suc i) p = h .later i (omega arith)
@@ -36,6 +37,7 @@ more m ms (suc b) h = rw (lt-ltb 0 (suc b) (omega arith)) (record { paid = paid;
     paid : (i : ℕ) → suc (suc b) ≡ suc i → getD (m ∷ ms) i 0 ≡ 1
     paid zero p = omega arith
     paid (suc i) p = h .paid i (omega arith)
+
     later : (i : ℕ) → suc (suc b) ≤ i → getD (m ∷ ms) i 0 ≡ 1 → ⊥
     later zero p = omega arith
     later (suc i) p = h .later i (omega arith)
