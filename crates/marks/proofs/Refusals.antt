@@ -1,6 +1,5 @@
 -- The reading refuses nothing exactly where the marks are lawful, and then holds their counts; else it refuses the first bad mark.
 -- Assumes nothing.
-use mathlib.Core.Bool.{Bool, true, false}
 use mathlib.Core.List.{List, [], _∷_, _++_}
 use mathlib.Core.Logic.{_⊎_, inl, inr, ⊎-elim}
 use mathlib.Core.Path.{_≡_, refl, sym, ap, _∙_}
@@ -13,6 +12,7 @@ use lib.Seq.{take-all, take-append-le, take-append-seam, take-take, getD-append-
 use Rattle.marks.specs.Counts.{lastOr, paidMonths, paidThrough, finalGap}
 use Rattle.marks.specs.Lawful.{Lawful, FirstBad}
 use Rattle.marks.specs.Reading.{refusedOf, stepBy, stepOf, readOn, readingOf, countsOf, marksOf}
+use Rattle.marks.proofs.Cases.{by-test}
 use Rattle.marks.proofs.Lists.{by-the-last, length-last}
 use Rattle.marks.proofs.Counts.{counts-missed, counts-paid, counts-ended}
 use Rattle.marks.proofs.Lawful.{Follows, follows-lawful, lawful-follows, lawful-take, none-lawful}
@@ -25,10 +25,6 @@ data Next (ms : List ℕ) (m : ℕ) : Type 0 where
   is-bad : (n : ℕ) → stepOf (countsOf ms) m ≡ refusedOf n (length ms) → (Follows ms m → ⊥)
       → ((n ≡ 11) × (2 < m)) ⊎ ((n ≡ 12) × (m ≤ 2)) → Next ms m
 
-by-test : {A : Type 0} (b : Bool) → (b ≡ true → A) → (b ≡ false → A) → A
-by-test true t f = t refl
-by-test false t f = f refl
-
 next : (ms : List ℕ) (m : ℕ) → Next ms m
 unfolding stepBy
 next ms zero =
@@ -38,14 +34,7 @@ next ms zero =
     by-test (eqb (length ms) 0)
     (λ u. is-bad 12 (rw (t, u)) (λ f. f .begins (eqb-true (length ms) 0 u) refl) (inr (refl, omega arith)))
     (λ u.
-    goes-on
-    (record {
-      known = omega arith;
-      begins = λ e z. eqb-false (length ms) 0 u e;
-      resumes = λ e. omega arith;
-      ends = λ e. absurd (eqb-false (lastOr 0 ms) 2 t e);
-    })
-    (rw (t, u) (sym (counts-missed ms)))))
+    goes-on (omega (arith, eqb-false (lastOr 0 ms) 2 t, eqb-false (length ms) 0 u)) (rw (t, u) (sym (counts-missed ms)))))
 next ms (suc zero) =
     by-test (eqb (lastOr 0 ms) 2)
     (λ t. is-bad 12 (rw t) (λ f. omega (arith, f .ends (eqb-true (lastOr 0 ms) 2 t))) (inr (refl, omega arith)))
@@ -53,18 +42,8 @@ next ms (suc zero) =
     by-test (leb 12 (finalGap ms))
     (λ u. is-bad 12 (rw (t, u)) (λ f. omega (arith, f .resumes refl, leb-true 12 (finalGap ms) u)) (inr (refl, omega arith)))
     (λ u.
-    goes-on
-    (record {
-      known = omega arith;
-      begins = λ e z. omega arith;
-      resumes = λ e. leb-false 12 (finalGap ms) u;
-      ends = λ e. absurd (eqb-false (lastOr 0 ms) 2 t e);
-    })
-    (rw (t, u) (sym (counts-paid ms)))))
-next ms (suc (suc zero)) =
-    goes-on
-    (record { known = omega arith; begins = λ e z. omega arith; resumes = λ e. omega arith; ends = λ e. refl })
-    (sym (counts-ended ms))
+    goes-on (omega (arith, eqb-false (lastOr 0 ms) 2 t, leb-false 12 (finalGap ms) u)) (rw (t, u) (sym (counts-paid ms)))))
+next ms (suc (suc zero)) = goes-on (omega arith) (sym (counts-ended ms))
 next ms (suc (suc (suc m))) =
     is-bad 11 (rw (lt-ltb 2 (suc (suc (suc m))) (omega arith))) (λ f. omega (arith, f .known)) (inl (refl, omega arith))
 

@@ -14,6 +14,7 @@ use Rattle.marks.specs.Counts.{lastOr, allPaid, paidMonths, paidThrough,
 use Rattle.marks.specs.Lawful.{Lawful, LawfulFor}
 use Rattle.marks.specs.Status.{stoppedOf, statusOf}
 use Rattle.marks.specs.Reading.{readingOf, countsOf, marksOf, statusFrom}
+use Rattle.marks.proofs.Cases.{by-test, either}
 use Rattle.marks.proofs.Term.{marks-counts}
 
 months-most : (ms : List ℕ) → paidMonths ms ≤ length ms
@@ -47,18 +48,14 @@ begun : (count months paid gap last s : ℕ) (all : Bool) → count ≤ months �
     → pick (leb months count) (pick (eqb paid months) 3 s) (pick (eqb last 1) 1 (pick (eqb gap 0) s (pick (ltb gap 12) 2 s)))
     ≡ pick (ltb count months && eqb last 1) 1
     (pick (ltb count months && (leb 1 gap && leb gap 11)) 2 (pick (eqb count months && all) 3 s))
-begun count months paid gap last s all h e = go (leb months count) refl
-  where
-    go : (t : Bool) → leb months count ≡ t
-        → pick t (pick (eqb paid months) 3 s) (pick (eqb last 1) 1 (pick (eqb gap 0) s (pick (ltb gap 12) 2 s)))
-        ≡ pick (ltb count months && eqb last 1) 1
-        (pick (ltb count months && (leb 1 gap && leb gap 11)) 2 (pick (eqb count months && all) 3 s))
-    go true t =
-        let over : count ≡ months = omega (arith, leb-true months count t) in
-        rw (le-ltb count months (omega arith), eq-eqb count months over, sym over, e)
-    go false t =
-        let running : count < months = leb-false months count t in
-        rw (lt-ltb count months running, ne-eqb count months (λ p. omega arith), open-gap gap s)
+begun count months paid gap last s all h e =
+    by-test (leb months count)
+    (λ t.
+    let over : count ≡ months = omega (arith, leb-true months count t) in
+    rw (t, le-ltb count months (omega arith), eq-eqb count months over, sym over, e))
+    (λ t.
+    let running : count < months = leb-false months count t in
+    rw (t, lt-ltb count months running, ne-eqb count months (λ p. omega arith), open-gap gap s))
 
 pub status-lawful : (term : ℕ) (ms : List ℕ) → LawfulFor term ms → statusFrom term (marksOf term ms) ≡ statusOf term ms
 unfolding statusFrom statusOf

@@ -1,6 +1,5 @@
 -- Laws of the reading of any marks: one mark more is one step more, and no count of a list's marks is held back.
 -- Assumes nothing.
-use mathlib.Core.Bool.{Bool, true, false}
 use mathlib.Core.List.{List, [], _∷_, _++_}
 use mathlib.Core.Path.{_≡_, refl, sym, ap, _∙_}
 use Prim.Native.Nat.{ℕ, suc, _+_, _-_, _<_, _≤_, _^_}
@@ -10,9 +9,9 @@ use borrow.Author.Tests.{lt-ltb}
 use lib.Dec.{ltb, leb, eqb}
 use lib.ListN.{length, take, getD}
 use lib.Seq.{take-suc, length-take-le}
-use Rattle.common.specs.Choice.{pick}
 use Rattle.marks.specs.declared.Reading.{Reading}
 use Rattle.marks.specs.Reading.{refusedOf, afterMissed, afterPaid, afterEnded, stepBy, stepOf, oneMore, startOf, readOn, readingOf, Within}
+use Rattle.marks.proofs.Cases.{either}
 use Rattle.marks.proofs.Lists.{by-the-last, length-last}
 
 pub read-on-append : (r : Reading) (xs ys : List ℕ) → readOn r (xs ++ ys) ≡ readOn (readOn r xs) ys
@@ -28,22 +27,18 @@ pub reading-take : (ms : List ℕ) (i : ℕ) → i < length ms
     → readingOf (take (suc i) ms) ≡ stepOf (readingOf (take i ms)) (getD ms i 0)
 reading-take ms i h = rw (take-suc ms i 0) (reading-last (take i ms) (getD ms i 0))
 
-either : {A : Type 0} (P : A → Type 0) (b : Bool) {x y : A} → P x → P y → P (pick b x y)
-either P true p q = p
-either P false p q = q
-
 pub refused-within : (n i k : ℕ) → Within (refusedOf n i) k
-refused-within n i k = record { count-most = omega arith; parts-most = omega arith; paid-most = omega arith }
+refused-within n i k = omega arith
 
 step-within : (r : Reading) (m n : ℕ) → Within r n → Within (stepOf r m) (suc n)
 unfolding stepBy
 step-within r m n h =
     let In : Reading → Type 0 = λ s. Within s (suc n) in
     let no : (k : ℕ) → In (refusedOf k (r .count)) = λ k. refused-within k (r .count) (suc n) in
-    let stays : In r = record { count-most = omega arith; parts-most = omega arith; paid-most = omega arith } in
-    let missed : In (afterMissed suc r) = record { count-most = omega arith; parts-most = omega arith; paid-most = omega arith } in
-    let paid : In (afterPaid suc r) = record { count-most = omega arith; parts-most = omega arith; paid-most = omega arith } in
-    let ended : In (afterEnded suc r) = record { count-most = omega arith; parts-most = omega arith; paid-most = omega arith } in
+    let stays : In r = omega arith in
+    let missed : In (afterMissed suc r) = omega arith in
+    let paid : In (afterPaid suc r) = omega arith in
+    let ended : In (afterEnded suc r) = omega arith in
     either In (ltb 0 (r .refusal)) stays
     (either In (ltb 2 m) (no 11)
     (either In (eqb m 2) ended
@@ -66,9 +61,9 @@ unfolding oneMore
 one-more-exact n h = rw (lt-ltb n (2 ^ 64 - 1) h) (add-one n)
 
 -- the machine's step at the marks of a list
-pub step-exact : (ms : List ℕ) (m : ℕ) → length ms < 2 ^ 64 - 1 → stepBy oneMore (readingOf ms) m ≡ readingOf (ms ++ (m ∷ []))
+pub step-last : (ms : List ℕ) (m : ℕ) → length ms < 2 ^ 64 - 1 → stepBy oneMore (readingOf ms) m ≡ readingOf (ms ++ (m ∷ []))
 unfolding stepBy
-step-exact ms m h =
+step-last ms m h =
     let r = readingOf ms in
     let w : Within r (length ms) = reading-within ms in
     rw (reading-last ms m, one-more-exact (r .count) (omega arith), one-more-exact (r .paid) (omega arith), one-more-exact (r .gap) (omega arith))
@@ -78,4 +73,4 @@ pub step-take : (ms : List ℕ) (i : ℕ) → i < length ms → i < 2 ^ 64 - 1
     → stepBy oneMore (readingOf (take i ms)) (getD ms i 0) ≡ readingOf (take (i + 1) ms)
 step-take ms i h small =
     let fits : length (take i ms) < 2 ^ 64 - 1 = rw (length-take-le i ms (omega arith)) small in
-    step-exact (take i ms) (getD ms i 0) fits ∙ rw (add-one, take-suc ms i 0)
+    step-last (take i ms) (getD ms i 0) fits ∙ rw (add-one, take-suc ms i 0)

@@ -1,19 +1,18 @@
--- Marks of a contract with its term: what is refused, and what holds where nothing is.
+-- The marks of a contract with its term: what is refused, and what holds where nothing is.
 -- Assumes nothing.
-use mathlib.Core.Bool.{Bool, true, false}
 use mathlib.Core.List.{List, [], _∷_, _++_}
-use mathlib.Core.Path.{_≡_, refl, _∙_}
-use Prim.Native.Nat.{ℕ, suc, _*_, _<_, _≤_}
+use mathlib.Core.Path.{_≡_, refl, sym, _∙_}
+use Prim.Native.Nat.{ℕ, _+_, _*_, _-_, _<_, _≤_, _^_}
 use native.Mathlib.Omega.{arith}
 use borrow.Author.Tests.{lt-ltb, le-ltb, ltb-true, ltb-false}
 use lib.Dec.{ltb}
-use lib.ListN.{length, take, length-take}
-use Rattle.common.specs.Choice.{pick}
-use Rattle.marks.specs.Lawful.{Lawful, LawfulFor, FirstBad}
-use Rattle.marks.specs.Reading.{refusedOf, stepOf, readingOf, countsOf, marksOf, Within}
+use lib.ListN.{length, take, getD, length-take}
+use Rattle.marks.specs.Lawful.{LawfulFor, FirstBad}
+use Rattle.marks.specs.Reading.{refusedOf, oneMore, stepBy, readingOf, countsOf, marksOf, Within}
+use Rattle.marks.proofs.Cases.{by-test}
 use Rattle.marks.proofs.Lists.{length-last}
 use Rattle.marks.proofs.Lawful.{lawful-take}
-use Rattle.marks.proofs.Steps.{reading-last, reading-within, refused-within}
+use Rattle.marks.proofs.Steps.{step-last, step-take, reading-within, refused-within}
 use Rattle.marks.proofs.Refusals.{lawful-reading, unrefused-lawful, first-refused}
 
 module _ (term : ℕ) (ms : List ℕ) where
@@ -32,30 +31,37 @@ module _ (term : ℕ) (ms : List ℕ) where
   marks-counts h = not-too-many (h .few) ∙ lawful-reading ms (h .lawful)
 
   pub marks-lawful : marksOf term ms .refusal ≡ 0 → LawfulFor term ms
-  marks-lawful h = go (ltb (12 * term) (length ms)) refl
-    where
-      go : (t : Bool) → ltb (12 * term) (length ms) ≡ t → LawfulFor term ms
-      go true e =
-          let ten = rw (too-many (ltb-true (12 * term) (length ms) e)) at h in
-          absurd (let none : ⊥ = omega arith in none)
-      go false e =
-          let few = ltb-false (12 * term) (length ms) e in
-          record { few = few; lawful = unrefused-lawful ms (rw (not-too-many few) at h) }
+  marks-lawful h =
+      by-test (ltb (12 * term) (length ms))
+      (λ t.
+      let ten = rw (too-many (ltb-true (12 * term) (length ms) t)) at h in
+      absurd (let none : ⊥ = omega arith in none))
+      (λ t.
+      let few = ltb-false (12 * term) (length ms) t in
+      record { few = few; lawful = unrefused-lawful ms (rw (not-too-many few) at h) })
 
   pub marks-within : Within (marksOf term ms) (12 * term)
-  marks-within = go (ltb (12 * term) (length ms)) refl
-    where
-      go : (t : Bool) → ltb (12 * term) (length ms) ≡ t → Within (marksOf term ms) (12 * term)
-      go true e = rw (too-many (ltb-true (12 * term) (length ms) e)) (refused-within 10 0 (12 * term))
-      go false e =
-          let few = ltb-false (12 * term) (length ms) e in
-          let w = reading-within ms in
-          rw (not-too-many few)
-          (record { count-most = omega arith; parts-most = w .parts-most; paid-most = w .paid-most })
-
-  pub marks-last : (m : ℕ) → length ms < 12 * term → marksOf term (ms ++ (m ∷ [])) ≡ stepOf (readingOf ms) m
-  unfolding marksOf
-  marks-last m h = rw (le-ltb (12 * term) (length (ms ++ (m ∷ []))) (omega (arith, length-last ms m))) (reading-last ms m)
+  marks-within =
+      by-test (ltb (12 * term) (length ms))
+      (λ t. rw (too-many (ltb-true (12 * term) (length ms) t)) (refused-within 10 0 (12 * term)))
+      (λ t.
+      let few = ltb-false (12 * term) (length ms) t in
+      rw (not-too-many few) (omega (arith, reading-within ms)))
 
   pub lawful-for-take : (i : ℕ) → LawfulFor term ms → LawfulFor term (take i ms)
-  lawful-for-take i h = record { few = omega (arith, length-take i ms, h .few); lawful = lawful-take ms i (h .lawful) }
+  lawful-for-take i h =
+      record { few = omega (arith, length-take i ms, h .few); lawful = lawful-take ms i (h .lawful) }
+
+-- the code's step reads one mark more: of a contract that goes on, and of a list that is read on
+
+pub marks-last : (term : ℕ) (ms : List ℕ) (m : ℕ) → length ms < 12 * term → length ms < 2 ^ 64 - 1
+    → stepBy oneMore (marksOf term ms) m ≡ marksOf term (ms ++ (m ∷ []))
+marks-last term ms m h small =
+    rw (not-too-many term ms (omega arith), not-too-many term (ms ++ (m ∷ [])) (omega (arith, length-last ms m)))
+    (step-last ms m small)
+
+pub marks-take : (term : ℕ) (ms : List ℕ) (i : ℕ) → length ms ≤ 12 * term → i < length ms → i < 2 ^ 64 - 1
+    → stepBy oneMore (marksOf term (take i ms)) (getD ms i 0) ≡ marksOf term (take (i + 1) ms)
+marks-take term ms i h below small =
+    rw (not-too-many term (take i ms) (omega (arith, length-take i ms)), not-too-many term (take (i + 1) ms) (omega (arith, length-take (i + 1) ms)))
+    (step-take ms i below small)

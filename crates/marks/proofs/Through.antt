@@ -44,7 +44,7 @@ more m ms (suc b) h = rw (lt-ltb 0 (suc b) (omega arith)) (record { paid = paid;
 
 pub through-last-paid : (ms : List ℕ) → LastPaid ms (paidThrough ms)
 unfolding paidThrough
-through-last-paid [] = record { paid = λ i p. omega arith; later = λ i p q. omega arith }
+through-last-paid [] = omega arith
 through-last-paid (m ∷ ms) = more m ms (paidThrough ms) (through-last-paid ms)
 
 apart : (ms : List ℕ) (a b : ℕ) → LastPaid ms a → LastPaid ms b → a < b → ⊥

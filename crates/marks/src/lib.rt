@@ -45,7 +45,7 @@ fn refused(refusal: u32, place: usize) -> Reading
 fn one_more(n: usize) -> usize
     ensures { λ out. ⌜ out ≡ oneMore n ⌝ }
 {
-    if n < 18446744073709551615 {
+    if n < usize::MAX {
         return n + 1;
     }
     n
@@ -152,13 +152,14 @@ pub fn status(term: u32, r: Reading) -> u32
     ensures { λ out. ⌜ out ≡ statusFrom term r ⌝ }
 {
     let months = 12 * (term as usize);
+    let count = r.count;
     if term == 0 {
         return 6;
     }
-    if r.count == 0 {
+    if count == 0 {
         return 0;
     }
-    if r.count >= months {
+    if count >= months {
         if r.paid == months {
             return 3;
         }
