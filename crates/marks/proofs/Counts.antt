@@ -2,22 +2,21 @@
 -- Assumes nothing.
 use mathlib.Core.Bool.{Bool, true, false, _&&_}
 use mathlib.Core.List.{List, [], _∷_, _++_, append-nil, append-assoc}
-use mathlib.Core.Path.{_≡_, refl, sym, ap, _∙_}
-use Prim.Native.Nat.{ℕ, zero, suc, _+_, _-_, _<_, _≤_}
+use mathlib.Core.Path.{_≡_, refl, sym, _∙_}
+use Prim.Native.Nat.{ℕ, zero, suc, _+_, _-_, _≤_}
 use native.Mathlib.Omega.{arith}
-use lib.Dec.{ltb, eqb, eqb·suc-suc, eqb·zero-suc}
-use lib.ListN.{length, getD, replicate}
+use lib.Dec.{eqb, eqb·suc-suc, eqb·zero-suc}
+use lib.ListN.{length, replicate}
 use borrow.Author.Tests.{lt-ltb, ne-eqb}
 use Rattle.common.specs.Choice.{pick}
-use Rattle.marks.specs.declared.Reading.{Reading}
-use Rattle.marks.specs.Counts.{lastOr, allPaid, paidMonths, paidThrough, finalGap}
+use Rattle.marks.specs.Counts.{lastOr, paidMonths, paidThrough, finalGap}
 use Rattle.marks.specs.Reading.{countsOf, afterMissed, afterPaid, afterEnded}
 use Rattle.marks.proofs.Lists.{by-the-last, length-last, replicate-last}
 
-pub last-last : (d : ℕ) (ms : List ℕ) (m : ℕ) → lastOr d (ms ++ (m ∷ [])) ≡ m
+pub last-is : (d : ℕ) (ms : List ℕ) (m : ℕ) → lastOr d (ms ++ (m ∷ [])) ≡ m
 unfolding lastOr
-last-last d [] m = refl
-last-last d (x ∷ ms) m = last-last x ms m
+last-is d [] m = refl
+last-is d (x ∷ ms) m = last-is x ms m
 
 pub months-last : (ms : List ℕ) (m : ℕ) → paidMonths (ms ++ (m ∷ [])) ≡ paidMonths ms + pick (eqb m 1) 1 0
 unfolding paidMonths
@@ -41,7 +40,9 @@ under-suc false x y = refl
 pub gap-missed : (ms : List ℕ) → finalGap (ms ++ (0 ∷ [])) ≡ suc (finalGap ms)
 unfolding finalGap
 gap-missed [] = refl
-gap-missed (x ∷ ms) = rw (gap-missed ms, length-last ms 0, eqb·suc-suc) (under-suc (eqb (finalGap ms) (length ms) && eqb x 0) (suc (length ms)) (finalGap ms))
+gap-missed (x ∷ ms) =
+    rw (gap-missed ms, length-last ms 0, eqb·suc-suc)
+    (under-suc (eqb (finalGap ms) (length ms) && eqb x 0) (suc (length ms)) (finalGap ms))
 
 pub gap-closed : (ms : List ℕ) (m : ℕ) → (m ≡ 0 → ⊥) → finalGap (ms ++ (m ∷ [])) ≡ 0
 unfolding finalGap
@@ -53,17 +54,17 @@ gap-closed (x ∷ ms) m h = rw (gap-closed ms m h, length-last ms m, eqb·zero-s
 pub counts-missed : (ms : List ℕ) → countsOf (ms ++ (0 ∷ [])) ≡ afterMissed suc (countsOf ms)
 counts-missed ms =
     let months : paidMonths (ms ++ (0 ∷ [])) ≡ paidMonths ms = omega (arith, months-last ms 0) in
-    rw (length-last ms 0, months, through-unpaid ms 0 (λ e. omega arith), gap-missed ms, last-last 0 ms 0)
+    rw (length-last ms 0, months, through-unpaid ms 0 (λ e. omega arith), gap-missed ms, last-is 0 ms 0)
 
 pub counts-paid : (ms : List ℕ) → countsOf (ms ++ (1 ∷ [])) ≡ afterPaid suc (countsOf ms)
 counts-paid ms =
     let months : paidMonths (ms ++ (1 ∷ [])) ≡ suc (paidMonths ms) = omega (arith, months-last ms 1) in
-    rw (length-last ms 1, months, through-paid ms, gap-closed ms 1 (λ e. omega arith), last-last 0 ms 1)
+    rw (length-last ms 1, months, through-paid ms, gap-closed ms 1 (λ e. omega arith), last-is 0 ms 1)
 
 pub counts-ended : (ms : List ℕ) → countsOf (ms ++ (2 ∷ [])) ≡ afterEnded suc (countsOf ms)
 counts-ended ms =
     let months : paidMonths (ms ++ (2 ∷ [])) ≡ paidMonths ms = omega (arith, months-last ms 2) in
-    rw (length-last ms 2, months, through-unpaid ms 2 (λ e. omega arith), gap-closed ms 2 (λ e. omega arith), last-last 0 ms 2)
+    rw (length-last ms 2, months, through-unpaid ms 2 (λ e. omega arith), gap-closed ms 2 (λ e. omega arith), last-is 0 ms 2)
 
 -- where the last mark and the final gap stand
 
@@ -72,7 +73,7 @@ unfolding lastOr
 last-stands ms =
     by-the-last
     (λ (xs : List ℕ). lastOr 0 xs ≡ 2 → (ys : List ℕ) × (xs ≡ ys ++ (2 ∷ [])))
-    (λ xs x p e. (xs, rw (sym (last-last 0 xs x) ∙ e)))
+    (λ xs x p e. (xs, rw (sym (last-is 0 xs x) ∙ e)))
     (λ e. absurd (let none : ⊥ = omega arith in none))
     ms
 

@@ -9,7 +9,7 @@ use lib.ListN.{length, replicate, take, drop, take-append-drop}
 use Rattle.marks.specs.Counts.{lastOr, finalGap}
 use Rattle.marks.specs.Lawful.{Lawful}
 use Rattle.marks.proofs.Lists.{by-the-last, was-last}
-use Rattle.marks.proofs.Counts.{last-last, last-stands, gap-stands, gap-holds}
+use Rattle.marks.proofs.Counts.{last-is, last-stands, gap-stands, gap-holds}
 
 -- the first of lawful marks are lawful
 pub lawful-prefix : (ms ns : List ℕ) → Lawful (ms ++ ns) → Lawful ms
@@ -71,8 +71,8 @@ pub ended-last : (xs ys : List ℕ) → Lawful (xs ++ (2 ∷ ys)) → lastOr 0 (
 ended-last xs ys =
     by-the-last
     (λ (zs : List ℕ). Lawful (xs ++ (2 ∷ zs)) → lastOr 0 (xs ++ (2 ∷ zs)) ≡ 2)
-    (λ zs z p h. rw (sym (append-assoc xs (2 ∷ zs) (z ∷ [])), last-last) (h .ends xs zs [] z refl))
-    (λ h. last-last 0 xs 2)
+    (λ zs z p h. rw (sym (append-assoc xs (2 ∷ zs) (z ∷ [])), last-is) (h .ends xs zs [] z refl))
+    (λ h. last-is 0 xs 2)
     ys
 
 pub follows-lawful : (ms : List ℕ) (m : ℕ) → Lawful ms → Follows ms m → Lawful (ms ++ (m ∷ []))

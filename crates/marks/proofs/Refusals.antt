@@ -1,17 +1,18 @@
--- The reading refuses nothing exactly where the marks are lawful, and then holds their counts; else it refuses the first bad mark.
+-- The reading refuses nothing exactly where the marks are lawful, and then holds their counts.
+-- Where it refuses, it refuses the first bad mark.
 -- Assumes nothing.
 use mathlib.Core.List.{List, [], _∷_, _++_}
 use mathlib.Core.Logic.{_⊎_, inl, inr, ⊎-elim}
-use mathlib.Core.Path.{_≡_, refl, sym, ap, _∙_}
-use Prim.Native.Nat.{ℕ, zero, suc, _*_, _<_, _≤_}
+use mathlib.Core.Path.{_≡_, refl, sym, _∙_}
+use Prim.Native.Nat.{ℕ, zero, suc, _<_, _≤_}
 use native.Mathlib.Omega.{arith}
-use borrow.Author.Tests.{lt-ltb, le-ltb, ltb-true, ltb-false, leb-true, leb-false, eqb-true, eqb-false}
-use lib.Dec.{ltb, leb, eqb}
+use borrow.Author.Tests.{lt-ltb, leb-true, leb-false, eqb-true, eqb-false}
+use lib.Dec.{leb, eqb}
 use lib.ListN.{length, take, getD, List·getD-append}
 use lib.Seq.{take-all, take-append-le, take-append-seam, take-take, getD-append-seam}
 use Rattle.marks.specs.Counts.{lastOr, paidMonths, paidThrough, finalGap}
 use Rattle.marks.specs.Lawful.{Lawful, FirstBad}
-use Rattle.marks.specs.Reading.{refusedOf, stepBy, stepOf, readOn, readingOf, countsOf, marksOf}
+use Rattle.marks.specs.Reading.{refusedOf, nextRefusalOf, afterMark, stepBy, stepOf, readOn, readingOf, countsOf}
 use Rattle.marks.proofs.Cases.{by-test}
 use Rattle.marks.proofs.Lists.{by-the-last, length-last}
 use Rattle.marks.proofs.Counts.{counts-missed, counts-paid, counts-ended}
@@ -26,7 +27,7 @@ data Next (ms : List ℕ) (m : ℕ) : Type 0 where
       → ((n ≡ 11) × (2 < m)) ⊎ ((n ≡ 12) × (m ≤ 2)) → Next ms m
 
 next : (ms : List ℕ) (m : ℕ) → Next ms m
-unfolding stepBy
+unfolding stepBy nextRefusalOf afterMark
 next ms zero =
     by-test (eqb (lastOr 0 ms) 2)
     (λ t. is-bad 12 (rw t) (λ f. omega (arith, f .ends (eqb-true (lastOr 0 ms) 2 t))) (inr (refl, omega arith)))
@@ -65,11 +66,12 @@ one-more ms m (accepted h e) = go (next ms m)
     go : Next ms m → Outcome (ms ++ (m ∷ []))
     go (goes-on f s) = accepted (follows-lawful ms m h f) (reading-last ms m ∙ rw e s)
     go (is-bad n s wrong w) =
+        let one = length-last ms m in
         refused n (length ms) (reading-last ms m ∙ rw e s)
         (record {
-          inside = omega (arith, length-last ms m);
+          inside = omega arith;
           before = rw (take-append-seam ms (m ∷ [])) h;
-          there = λ l. wrong (lawful-follows ms m (rw (take-all (suc (length ms)) (ms ++ (m ∷ [])) (omega (arith, length-last ms m))) at l));
+          there = λ l. wrong (lawful-follows ms m (rw (take-all (suc (length ms)) (ms ++ (m ∷ [])) (omega arith)) at l));
           number = rw (getD-append-seam ms m [] 0) w;
         })
 one-more ms m (refused n i e b) =
@@ -94,7 +96,8 @@ lawful-reading ms h = go (outcome ms)
     go (refused n i e b) = absurd (b .there (lawful-take ms (suc i) h))
 
 -- Where it refuses, it refuses the first bad mark.
-pub refused-first : (ms : List ℕ) → (readingOf ms .refusal ≡ 0 → ⊥) → FirstBad ms (readingOf ms .refusal) (readingOf ms .place)
+pub refused-first : (ms : List ℕ) → (readingOf ms .refusal ≡ 0 → ⊥)
+    → FirstBad ms (readingOf ms .refusal) (readingOf ms .place)
 refused-first ms h = go (outcome ms)
   where
     go : Outcome ms → FirstBad ms (readingOf ms .refusal) (readingOf ms .place)

@@ -2,19 +2,19 @@
 -- Assumes nothing.
 use mathlib.Core.Bool.{Bool, true, false, _&&_}
 use mathlib.Core.List.{List, [], _∷_}
-use mathlib.Core.Path.{_≡_, refl, sym, ap, _∙_}
+use mathlib.Core.Path.{_≡_, refl, sym}
 use Prim.Native.Nat.{ℕ, zero, suc, _+_, _*_, _<_, _≤_}
 use native.Mathlib.Omega.{arith}
 use native.Mathlib.Numerals.{one-add}
-use borrow.Author.Tests.{lt-ltb, le-ltb, le-leb, lt-leb, leb-true, leb-false, eq-eqb, ne-eqb}
+use borrow.Author.Tests.{lt-ltb, le-ltb, le-leb, leb-true, leb-false, eq-eqb, ne-eqb}
 use lib.Dec.{ltb, leb, eqb, eqb·suc-suc, leb·suc-suc}
 use lib.ListN.{length}
 use Rattle.common.specs.Choice.{pick}
-use Rattle.marks.specs.Counts.{lastOr, allPaid, paidMonths, paidThrough, finalGap}
-use Rattle.marks.specs.Lawful.{Lawful, LawfulFor}
-use Rattle.marks.specs.Status.{stoppedOf, statusOf}
-use Rattle.marks.specs.Reading.{readingOf, countsOf, marksOf, statusFrom}
-use Rattle.marks.proofs.Cases.{by-test, either}
+use Rattle.marks.specs.Counts.{allPaid, paidMonths, paidThrough, finalGap}
+use Rattle.marks.specs.Lawful.{LawfulFor}
+use Rattle.marks.specs.Status.{stoppedOf, statusOf, statusFrom}
+use Rattle.marks.specs.Reading.{marksOf}
+use Rattle.marks.proofs.Cases.{by-test}
 use Rattle.marks.proofs.Term.{marks-counts}
 
 months-most : (ms : List ℕ) → paidMonths ms ≤ length ms
@@ -43,24 +43,17 @@ open-gap zero s = refl
 open-gap (suc gap) s =
     rw (ne-eqb (suc gap) 0 (λ e. omega arith), le-leb 1 (suc gap) (omega arith), leb·suc-suc (suc gap) 11)
 
--- a contract that has marks
-begun : (count months paid gap last s : ℕ) (all : Bool) → count ≤ months → eqb paid count ≡ all
-    → pick (leb months count) (pick (eqb paid months) 3 s) (pick (eqb last 1) 1 (pick (eqb gap 0) s (pick (ltb gap 12) 2 s)))
-    ≡ pick (ltb count months && eqb last 1) 1
-    (pick (ltb count months && (leb 1 gap && leb gap 11)) 2 (pick (eqb count months && all) 3 s))
-begun count months paid gap last s all h e =
-    by-test (leb months count)
-    (λ t.
-    let over : count ≡ months = omega (arith, leb-true months count t) in
-    rw (t, le-ltb count months (omega arith), eq-eqb count months over, sym over, e))
-    (λ t.
-    let running : count < months = leb-false months count t in
-    rw (t, lt-ltb count months running, ne-eqb count months (λ p. omega arith), open-gap gap s))
-
-pub status-lawful : (term : ℕ) (ms : List ℕ) → LawfulFor term ms → statusFrom term (marksOf term ms) ≡ statusOf term ms
+pub status-lawful : (term : ℕ) (ms : List ℕ) → LawfulFor term ms
+    → statusFrom term (marksOf term ms) ≡ statusOf term ms
 unfolding statusFrom statusOf
 status-lawful term ms h =
-    rw (
-      marks-counts term ms h,
-      begun (length ms) (12 * term) (paidMonths ms) (finalGap ms) (lastOr 0 ms) (stoppedOf (paidThrough ms)) (allPaid ms) (h .few) (all-paid ms),
-    )
+    let months = 12 * term in
+    let count = length ms in
+    by-test (leb months count)
+    (λ t.
+    let over : count ≡ months = omega (arith, h .few, leb-true months count t) in
+    rw (marks-counts term ms h, t, le-ltb count months (omega arith), eq-eqb count months over, sym over, all-paid ms))
+    (λ t.
+    let running : count < months = leb-false months count t in
+    rw (marks-counts term ms h, t, lt-ltb count months running, ne-eqb count months (λ p. omega arith))
+    (rw (open-gap (finalGap ms) (stoppedOf (paidThrough ms)))))

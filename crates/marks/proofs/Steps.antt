@@ -1,16 +1,17 @@
 -- Laws of the reading of any marks: one mark more is one step more, and no count of a list's marks is held back.
 -- Assumes nothing.
 use mathlib.Core.List.{List, [], _∷_, _++_}
-use mathlib.Core.Path.{_≡_, refl, sym, ap, _∙_}
+use mathlib.Core.Path.{_≡_, refl, _∙_}
 use Prim.Native.Nat.{ℕ, suc, _+_, _-_, _<_, _≤_, _^_}
 use native.Mathlib.Numerals.{add-one}
 use native.Mathlib.Omega.{arith}
 use borrow.Author.Tests.{lt-ltb}
-use lib.Dec.{ltb, leb, eqb}
+use lib.Dec.{ltb, eqb}
 use lib.ListN.{length, take, getD}
 use lib.Seq.{take-suc, length-take-le}
 use Rattle.marks.specs.declared.Reading.{Reading}
-use Rattle.marks.specs.Reading.{refusedOf, afterMissed, afterPaid, afterEnded, stepBy, stepOf, oneMore, startOf, readOn, readingOf, Within}
+use Rattle.marks.specs.Reading.{refusedOf, startOf, nextRefusalOf, afterMissed, afterPaid, afterEnded, afterMark}
+use Rattle.marks.specs.Reading.{stepBy, stepOf, oneMore, readOn, readingOf, Within}
 use Rattle.marks.proofs.Cases.{either}
 use Rattle.marks.proofs.Lists.{by-the-last, length-last}
 
@@ -31,21 +32,16 @@ pub refused-within : (n i k : ℕ) → Within (refusedOf n i) k
 refused-within n i k = omega arith
 
 step-within : (r : Reading) (m n : ℕ) → Within r n → Within (stepOf r m) (suc n)
-unfolding stepBy
+unfolding stepBy afterMark
 step-within r m n h =
     let In : Reading → Type 0 = λ s. Within s (suc n) in
-    let no : (k : ℕ) → In (refusedOf k (r .count)) = λ k. refused-within k (r .count) (suc n) in
     let stays : In r = omega arith in
     let missed : In (afterMissed suc r) = omega arith in
     let paid : In (afterPaid suc r) = omega arith in
     let ended : In (afterEnded suc r) = omega arith in
     either In (ltb 0 (r .refusal)) stays
-    (either In (ltb 2 m) (no 11)
-    (either In (eqb m 2) ended
-    (either In (eqb (r .last) 2) (no 12)
-    (either In (eqb m 1)
-    (either In (leb 12 (r .gap)) (no 12) paid)
-    (either In (eqb (r .count) 0) (no 12) missed)))))
+    (either In (ltb 0 (nextRefusalOf r m)) (refused-within _ _ _)
+    (either In (eqb m 0) missed (either In (eqb m 1) paid ended)))
 
 pub reading-within : (ms : List ℕ) → Within (readingOf ms) (length ms)
 unfolding readOn
@@ -61,12 +57,14 @@ unfolding oneMore
 one-more-exact n h = rw (lt-ltb n (2 ^ 64 - 1) h) (add-one n)
 
 -- the machine's step at the marks of a list
-pub step-last : (ms : List ℕ) (m : ℕ) → length ms < 2 ^ 64 - 1 → stepBy oneMore (readingOf ms) m ≡ readingOf (ms ++ (m ∷ []))
-unfolding stepBy
+pub step-last : (ms : List ℕ) (m : ℕ) → length ms < 2 ^ 64 - 1
+    → stepBy oneMore (readingOf ms) m ≡ readingOf (ms ++ (m ∷ []))
+unfolding stepBy afterMark
 step-last ms m h =
     let r = readingOf ms in
     let w : Within r (length ms) = reading-within ms in
-    rw (reading-last ms m, one-more-exact (r .count) (omega arith), one-more-exact (r .paid) (omega arith), one-more-exact (r .gap) (omega arith))
+    let up : (n : ℕ) → n ≤ length ms → oneMore n ≡ suc n = λ n p. one-more-exact n (omega arith) in
+    rw (reading-last ms m, up (r .count) (omega arith), up (r .paid) (omega arith), up (r .gap) (omega arith))
 
 -- the machine's step at the next mark of a list
 pub step-take : (ms : List ℕ) (i : ℕ) → i < length ms → i < 2 ^ 64 - 1

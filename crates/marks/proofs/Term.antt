@@ -1,7 +1,7 @@
 -- The marks of a contract with its term: what is refused, and what holds where nothing is.
 -- Assumes nothing.
 use mathlib.Core.List.{List, [], _∷_, _++_}
-use mathlib.Core.Path.{_≡_, refl, sym, _∙_}
+use mathlib.Core.Path.{_≡_, _∙_}
 use Prim.Native.Nat.{ℕ, _+_, _*_, _-_, _<_, _≤_, _^_}
 use native.Mathlib.Omega.{arith}
 use borrow.Author.Tests.{lt-ltb, le-ltb, ltb-true, ltb-false}
@@ -63,5 +63,5 @@ marks-last term ms m h small =
 pub marks-take : (term : ℕ) (ms : List ℕ) (i : ℕ) → length ms ≤ 12 * term → i < length ms → i < 2 ^ 64 - 1
     → stepBy oneMore (marksOf term (take i ms)) (getD ms i 0) ≡ marksOf term (take (i + 1) ms)
 marks-take term ms i h below small =
-    rw (not-too-many term (take i ms) (omega (arith, length-take i ms)), not-too-many term (take (i + 1) ms) (omega (arith, length-take (i + 1) ms)))
-    (step-take ms i below small)
+    let few : (k : ℕ) → length (take k ms) ≤ 12 * term = λ k. omega (arith, length-take k ms) in
+    rw (not-too-many term (take i ms) (few i), not-too-many term (take (i + 1) ms) (few (i + 1))) (step-take ms i below small)

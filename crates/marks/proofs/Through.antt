@@ -30,7 +30,8 @@ first m ms false e h =
     later zero p = eqb-false m 1 e
     later (suc i) p = h .later i (omega arith)
 
-more : (m : ℕ) (ms : List ℕ) (b : ℕ) → LastPaid ms b → LastPaid (m ∷ ms) (pick (ltb 0 b) (suc b) (pick (eqb m 1) 1 0))
+more : (m : ℕ) (ms : List ℕ) (b : ℕ) → LastPaid ms b
+    → LastPaid (m ∷ ms) (pick (ltb 0 b) (suc b) (pick (eqb m 1) 1 0))
 more m ms zero h = first m ms (eqb m 1) refl h
 more m ms (suc b) h = rw (lt-ltb 0 (suc b) (omega arith)) (record { paid = paid; later = later })
   where

@@ -1,9 +1,9 @@
 // The marks of a contract, read from the left, and the contract's status.
 ghost use mathlib.Core.Path.{_≡_};
-ghost use Rattle.marks.specs.Reading.{refusedOf, startOf, oneMore, afterMissed, afterPaid, afterEnded, stepBy, marksOf, statusFrom};
-ghost use Rattle.marks.specs.Status.{stoppedOf};
+ghost use Rattle.marks.specs.Reading.{refusedOf, startOf, oneMore, nextRefusalOf, afterMark, stepBy, marksOf};
+ghost use Rattle.marks.specs.Status.{stoppedOf, statusFrom};
 
-// What the marks read so far say, or where they were refused, with zeros in the other fields.
+// What the marks read so far say; or a refusal and its place, and zeros.
 pub struct Reading {
     // 0 none, 10, 11 or 12
     pub refusal: u32,
@@ -21,6 +21,7 @@ pub struct Reading {
     pub last: u8,
 }
 
+// Before any mark.
 pub fn start() -> Reading
     ensures { λ out. ⌜ out ≡ startOf ⌝ }
 {
@@ -41,7 +42,7 @@ fn refused(refusal: u32, place: usize) -> Reading
     }
 }
 
-// A count never wraps; of the marks of a list it is never held back.
+// A count stays at its greatest value instead of wrapping. The marks of a slice never bring it there.
 fn one_more(n: usize) -> usize
     ensures { λ out. ⌜ out ≡ oneMore n ⌝ }
 {
@@ -51,41 +52,64 @@ fn one_more(n: usize) -> usize
     n
 }
 
-fn missed(r: Reading) -> Reading
-    ensures { λ out. ⌜ out ≡ afterMissed oneMore r ⌝ }
+// The refusal of one more mark: 0 none, 11 or 12.
+fn next_refusal(r: Reading, mark: u8) -> u32
+    ensures { λ out. ⌜ out ≡ nextRefusalOf r mark ⌝ }
 {
-    Reading {
-        refusal: 0,
-        place: 0,
-        count: one_more(r.count),
-        paid: r.paid,
-        through: r.through,
-        gap: one_more(r.gap),
-        last: 0,
+    if mark > 2 {
+        return 11;
     }
+    if mark == 2 {
+        return 0;
+    }
+    if r.last == 2 {
+        return 12;
+    }
+    if mark == 1 {
+        if r.gap >= 12 {
+            return 12;
+        }
+        return 0;
+    }
+    if r.count == 0 {
+        return 12;
+    }
+    0
 }
 
-fn paid(r: Reading) -> Reading
-    ensures { λ out. ⌜ out ≡ afterPaid oneMore r ⌝ }
+// The counts with a mark that is not refused.
+fn counted(r: Reading, mark: u8) -> Reading
+    ensures { λ out. ⌜ out ≡ afterMark oneMore r mark ⌝ }
 {
-    Reading {
-        refusal: 0,
-        place: 0,
-        count: one_more(r.count),
-        paid: one_more(r.paid),
-        through: one_more(r.count),
-        gap: 0,
-        last: 1,
+    let count = one_more(r.count);
+    if mark == 0 {
+        let gap = one_more(r.gap);
+        return Reading {
+            refusal: 0,
+            place: 0,
+            count,
+            paid: r.paid,
+            through: r.through,
+            gap,
+            last: 0,
+        };
     }
-}
-
-fn ended(r: Reading) -> Reading
-    ensures { λ out. ⌜ out ≡ afterEnded oneMore r ⌝ }
-{
+    if mark == 1 {
+        let paid = one_more(r.paid);
+        return Reading {
+            refusal: 0,
+            place: 0,
+            count,
+            paid,
+            through: count,
+            gap: 0,
+            last: 1,
+        };
+    }
     Reading {
         refusal: 0,
         place: 0,
-        count: one_more(r.count),
+        count,
         paid: r.paid,
         through: r.through,
         gap: 0,
@@ -93,32 +117,18 @@ fn ended(r: Reading) -> Reading
     }
 }
 
-// One more mark.
+// One more mark; a reading that is refused stays so.
 pub fn step(r: Reading, mark: u8) -> Reading
     ensures { λ out. ⌜ out ≡ stepBy oneMore r mark ⌝ }
 {
     if r.refusal > 0 {
         return r;
     }
-    if mark > 2 {
-        return refused(11, r.count);
+    let refusal = next_refusal(r, mark);
+    if refusal > 0 {
+        return refused(refusal, r.count);
     }
-    if mark == 2 {
-        return ended(r);
-    }
-    if r.last == 2 {
-        return refused(12, r.count);
-    }
-    if mark == 1 {
-        if r.gap >= 12 {
-            return refused(12, r.count);
-        }
-        return paid(r);
-    }
-    if r.count == 0 {
-        return refused(12, r.count);
-    }
-    missed(r)
+    counted(r, mark)
 }
 
 // All the marks of a contract of `term` years, 0 for a lump sum.
@@ -138,6 +148,7 @@ pub fn read_marks(marks: &[u8], term: u32) -> Reading
     r
 }
 
+// A contract that has stopped: ceased or refunded.
 fn stopped(through: usize) -> u32
     ensures { λ out. ⌜ out ≡ stoppedOf through ⌝ }
 {
@@ -147,7 +158,7 @@ fn stopped(through: usize) -> u32
     5
 }
 
-// The status of a contract of `term` years from the reading of its lawful marks.
+// The status of a contract of `term` years, from the reading of its marks where they are not refused.
 pub fn status(term: u32, r: Reading) -> u32
     ensures { λ out. ⌜ out ≡ statusFrom term r ⌝ }
 {

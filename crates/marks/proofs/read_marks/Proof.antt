@@ -1,10 +1,9 @@
 -- `marks::read_marks` meets its contract. The loop's invariant: `r` is the reading of the marks before `i`.
 -- Assumes nothing.
 use borrow.Author.Needs.{needs}
-use mathlib.Core.Path.{_≡_, refl, sym, ap, _∙_}
+use mathlib.Core.Path.{_≡_, _∙_}
 use Prim.Native.Nat.{_≤_, _*_, _-_}
 use native.Mathlib.Omega.{arith}
-use native.Mathlib.Numerals.{add-one}
 use denote.Ref.{now}
 use borrow.Author.Tests.{le-ltb}
 use lib.ListN.{length, take}
@@ -14,14 +13,10 @@ use Rattle.marks.specs.Reading.{readOn, readingOf, marksOf}
 use Rattle.marks.proofs.Steps.{step-take}
 use Rattle.marks.proofs.read_marks.Statement.{statement}
 use Rattle.marks.proofs.read_marks.Tie as tie
-use Rattle.marks.proofs.read_marks.Reads as reads
-use Rattle.marks.proofs.read_marks.Lts as lts
-use Rattle.marks.proofs.refused.Reads as refused-reads
-use Rattle.marks.proofs.start.Reads as start-reads
-use Rattle.marks.proofs.step.Reads as step-reads
 
 abbrev Inv-loop : tie.InvT-loop
-Inv-loop marks term months r₀ i₀ r i = (i ≤ length marks) × (length marks ≤ 12 * term) × (r ≡ readingOf (take i marks))
+Inv-loop marks term months r₀ i₀ r i =
+    (i ≤ length marks) × (length marks ≤ 12 * term) × (r ≡ readingOf (take i marks))
 
 abbrev μ-loop : tie.MeasureT-loop
 μ-loop marks term months r₀ i₀ r i = length marks - i

@@ -2,7 +2,7 @@
 -- Assumes nothing.
 use borrow.Author.Needs.{needs}
 use Rattle.common.proofs.Tests.{tests}
-use Rattle.marks.specs.Reading.{statusFrom}
+use Rattle.marks.specs.Status.{statusFrom}
 use Rattle.marks.proofs.status.Statement.{statement}
 use Rattle.marks.proofs.status.Tie as tie
 
