@@ -1,4 +1,5 @@
--- Laws of the reading of any marks: one mark more is one step more, and no count of a list's marks is held back.
+-- Laws of the reading of any marks: one mark more is one step more, its bounds, and that the code's step never holds
+-- a count back on the marks of a slice.
 -- Assumes nothing.
 use mathlib.Core.List.{List, [], _∷_, _++_}
 use mathlib.Core.Path.{_≡_, refl, _∙_}
@@ -56,7 +57,7 @@ one-more-exact : (n : ℕ) → n < 2 ^ 64 - 1 → oneMore n ≡ suc n
 unfolding oneMore
 one-more-exact n h = rw (lt-ltb n (2 ^ 64 - 1) h) (add-one n)
 
--- the machine's step at the marks of a list
+-- the code's step, after the marks of a list
 pub step-last : (ms : List ℕ) (m : ℕ) → length ms < 2 ^ 64 - 1
     → stepBy oneMore (readingOf ms) m ≡ readingOf (ms ++ (m ∷ []))
 unfolding stepBy afterMark
@@ -66,7 +67,7 @@ step-last ms m h =
     let up : (n : ℕ) → n ≤ length ms → oneMore n ≡ suc n = λ n p. one-more-exact n (omega arith) in
     rw (reading-last ms m, up (r .count) (omega arith), up (r .paid) (omega arith), up (r .gap) (omega arith))
 
--- the machine's step at the next mark of a list
+-- the code's step, on the way through a list
 pub step-take : (ms : List ℕ) (i : ℕ) → i < length ms → i < 2 ^ 64 - 1
     → stepBy oneMore (readingOf (take i ms)) (getD ms i 0) ≡ readingOf (take (i + 1) ms)
 step-take ms i h small =

@@ -52,7 +52,7 @@ module _ (term : ℕ) (ms : List ℕ) where
   lawful-for-take i h =
       record { few = omega (arith, length-take i ms, h .few); lawful = lawful-take ms i (h .lawful) }
 
--- the code's step reads one mark more: of a contract that goes on, and of a list that is read on
+-- the code's step reads one mark more: as a month is posted, and on the way through a list
 
 pub marks-last : (term : ℕ) (ms : List ℕ) (m : ℕ) → length ms < 12 * term → length ms < 2 ^ 64 - 1
     → stepBy oneMore (marksOf term ms) m ≡ marksOf term (ms ++ (m ∷ []))
