@@ -1,0 +1,1 @@
+// The credit of one table for a list of marks.
