@@ -1,3 +1,5 @@
 pub mod Years
 pub mod Runs
 pub mod Credit
+pub mod Earned
+pub mod Promises

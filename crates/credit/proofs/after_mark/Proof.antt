@@ -1,0 +1,25 @@
+-- `credit::after_mark` meets its contract, test by test.
+-- Assumes nothing.
+use native.Mathlib.Omega.{arith}
+use borrow.Author.Needs.{needs}
+use Rattle.common.proofs.Tests.{tests}
+use Rattle.credit.specs.Earned.{afterMark}
+use Rattle.credit.proofs.after_mark.Statement.{statement}
+use Rattle.credit.proofs.after_mark.Tie as tie
+
+add-month : tie.Need-add-month
+add-month c = search needs
+
+returns : tie.Need-returns
+unfolding afterMark
+returns c = record { is = search tests; next = search needs; small = omega arith }
+
+credit-at-requires : tie.Need-credit-at-requires
+credit-at-requires c κs = search needs
+
+returns-2 : tie.Need-returns-2
+unfolding afterMark
+returns-2 c = record { is = search (tests, ← c .credit-at .ensures .is); next = search needs; small = omega arith }
+
+pub after-mark-spec : {M : Type 1} → statement M
+after-mark-spec = tie.close (tie.spec add-month returns credit-at-requires returns-2)
