@@ -1,0 +1,98 @@
+-- The laws of the rates, for callers: the print rules both ways, the greatest rates, and how the monthly rates go with term and age.
+-- Assumes nothing.
+use mathlib.Core.Path.{_≡_, refl, ap, _∙_}
+use mathlib.Core.Bool.{Bool, true, false}
+use mathlib.Core.Logic.{⊎-elim}
+use Prim.Native.Nat.{ℕ, suc, _+_, _-_, _%_, _≤_, _<_, zero-le}
+use native.Mathlib.Nat.{le-refl, le-trans}
+use native.Mathlib.Decide.{le-ind}
+use native.Mathlib.Omega.{arith}
+use lib.ListN.{length, getD}
+use lib.Dec.{ltb}
+use borrow.Author.Tests.{ltb-true, ltb-false}
+use Rattle.common.specs.Choice.{pick}
+use Rattle.common.proofs.Table.{length-tabulate, getD-tabulate}
+use Rattle.rates.specs.Rates.{tableOf, rateOf, rowOf, rateIn, lumpRateOf, Printed, LumpPrinted}
+use Rattle.rates.proofs.Entries.{Placed, by-positive, entry-none}
+use Rattle.rates.proofs.Tables.{Known, known-or-empty}
+use Rattle.rates.proofs.Monthly.{Rules, rules, rate-placed}
+use Rattle.rates.proofs.LumpSum as lump
+
+rate-known : (o p age term : ℕ) → 0 < rateOf o p age term → Known o p
+unfolding rateOf
+rate-known o p age term h =
+    ⊎-elim (λ k. k) (λ e. absurd (omega (arith, entry-none age term, rw e at h))) (known-or-empty o p)
+
+rate-rules : (o p age term : ℕ) → 0 < rateOf o p age term → Rules o p age term
+rate-rules o p age term h = rules o p age term (rate-known o p age term h) (rate-placed o p age term h)
+
+-- the print rule of the monthly tables, both ways
+pub printed : (o p age term : ℕ) → 0 < rateOf o p age term → Printed o p age term
+printed o p age term h =
+    let known = rate-known o p age term h in
+    let placed = rate-placed o p age term h in
+    let before = rate-rules o p age term h .before h in
+    omega arith
+
+pub shown : (o p age term : ℕ) → Printed o p age term → 0 < rateOf o p age term
+shown o p age term r = rules o p age term (omega arith) (omega arith) .shown (omega arith)
+
+-- the greatest monthly rate is £381.60, in D65 at age 63 for a term of 1
+pub rate-most : (o p age term : ℕ) → rateOf o p age term ≤ 38160
+rate-most o p age term = by-positive (λ x. x ≤ 38160) _ zero-le (λ h. rate-rules o p age term h .most)
+
+pub rate-tens : (o p age term : ℕ) → rateOf o p age term % 10 ≡ 0
+rate-tens o p age term = by-positive (λ x. x % 10 ≡ 0) _ refl (λ h. rate-rules o p age term h .tens)
+
+-- along a row the rate never rises with the term
+pub rate-falls : (o p age n t : ℕ) → 0 < n → n ≤ t → rateOf o p age t ≤ rateOf o p age n
+rate-falls o p age n t low =
+    le-ind (λ (m : ℕ). rateOf o p age m ≤ rateOf o p age n) (le-refl _) (λ m h below. le-trans (step m (omega arith)) below) t
+  where
+    step : (m : ℕ) → 0 < m → rateOf o p age (suc m) ≤ rateOf o p age m
+    step m pos =
+        by-positive (λ x. x ≤ rateOf o p age m) _ zero-le λ h.
+        rules o p age m (rate-known o p age (suc m) h) (omega (arith, rate-placed o p age (suc m) h)) .row h
+
+-- down a column it never falls with age, as far as the column is printed
+pub rate-rises : (o p a b term : ℕ) → a ≤ b → 0 < rateOf o p b term → rateOf o p a term ≤ rateOf o p b term
+rate-rises o p a b term le last =
+    by-positive (λ x. x ≤ rateOf o p b term) _ zero-le λ first.
+    le-ind (λ (n : ℕ). Printed o p n term → rateOf o p a term ≤ rateOf o p n term) (λ r. le-refl _)
+    (λ m h above r. le-trans (above (omega (arith, printed o p a term first)))
+      (rules o p m term (omega arith) (omega (arith, printed o p a term first)) .column (shown o p (suc m) term r)))
+    b le (printed o p b term last)
+
+pub row-length : (o p age : ℕ) → length (rowOf o p age) ≡ 20
+unfolding rowOf
+row-length o p age = length-tabulate (rateOf o p age) 1 20
+
+-- a row has the rate of every term
+pub rate-in-row : (o p age term : ℕ) → rateIn (rowOf o p age) term ≡ rateOf o p age term
+unfolding rateIn rowOf
+rate-in-row o p age term = by (ltb term 1) (ltb 20 term) refl refl
+  where
+    none : (Printed o p age term → ⊥) → 0 ≡ rateOf o p age term
+    none n = by-positive (λ x. 0 ≡ x) _ refl (λ h. absurd (n (printed o p age term h)))
+
+    by : (a b : Bool) → ltb term 1 ≡ a → ltb 20 term ≡ b → pick a 0 (pick b 0 (getD (rowOf o p age) (term - 1) 0)) ≡ rateOf o p age term
+    by true b e f = none (λ r. omega (arith, ltb-true term 1 e))
+    by false true e f = none (λ r. omega (arith, ltb-true 20 term f))
+    by false false e f =
+        let high : term ≤ 20 = ltb-false 20 term f in
+        let same : 1 + (term - 1) ≡ term = omega (arith, ltb-false term 1 e) in
+        getD-tabulate (rateOf o p age) 1 20 (term - 1) (omega arith) ∙ ap (rateOf o p age) same
+
+-- the print rule of Table S, both ways
+pub lump-printed : (o age : ℕ) → 0 < lumpRateOf o age → LumpPrinted o age
+lump-printed = lump.lump-printed
+
+pub lump-shown : (o age : ℕ) → LumpPrinted o age → 0 < lumpRateOf o age
+lump-shown o age r = lump.rules o age r .shown
+
+-- the greatest lump sum is £4,560, for option 2 at age 64
+pub lump-most : (o age : ℕ) → lumpRateOf o age ≤ 456000
+lump-most o age = by-positive (λ x. x ≤ 456000) _ zero-le (λ h. lump.rules o age (lump-printed o age h) .most)
+
+pub lump-tens : (o age : ℕ) → lumpRateOf o age % 1000 ≡ 0
+lump-tens o age = by-positive (λ x. x % 1000 ≡ 0) _ refl (λ h. lump.rules o age (lump-printed o age h) .tens)

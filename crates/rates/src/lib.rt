@@ -1,0 +1,83 @@
+// The published rates, in pence per £250 of pension a year: a row of monthly rates, the rate for a term, a lump sum.
+ghost use mathlib.Core.Path.{_≡_};
+ghost use Rattle.common.specs.Table.{tabulate};
+ghost use Rattle.rates.specs.Rates.{entryOf, rowOf, rateIn, lumpRateOf};
+
+mod personal;
+mod dependant;
+mod lump_sum;
+
+// The line of a monthly table for an age; zeros where it has none.
+fn row_at(table: &[u32; 1020], age: u32) -> [u32; 20]
+    ensures { λ r. ⌜ r ≡ tabulate (entryOf (now (table .entry)) age) 1 20 ⌝ }
+{
+    let mut row = [0u32; 20];
+    if age < 16 {
+        return row;
+    }
+    if 66 < age {
+        return row;
+    }
+    let start = ((age - 16) * 20) as usize;
+    let mut k: usize = 0;
+    while k < 20 {
+        row[k] = table[start + k];
+        k += 1;
+    }
+    row
+}
+
+// The monthly rates at an age, for the terms 1 to 20; 0 where none is printed.
+pub fn monthly_row(option: u32, pension_age: u32, age: u32) -> [u32; 20]
+    ensures { λ r. ⌜ r ≡ rowOf option «pension_age» age ⌝ }
+{
+    match option {
+        1 => match pension_age {
+            65 => row_at(&personal::P65, age),
+            66 => row_at(&personal::P66, age),
+            67 => row_at(&personal::P67, age),
+            68 => row_at(&personal::P68, age),
+            _ => [0u32; 20],
+        },
+        2 => match pension_age {
+            65 => row_at(&dependant::D65, age),
+            66 => row_at(&dependant::D66, age),
+            67 => row_at(&dependant::D67, age),
+            68 => row_at(&dependant::D68, age),
+            _ => [0u32; 20],
+        },
+        _ => [0u32; 20],
+    }
+}
+
+// The rate that a row has for a term; 0 for a term that is not 1 to 20.
+pub fn rate_in(row: [u32; 20], term: u32) -> u32
+    ensures { λ r. ⌜ r ≡ rateIn row term ⌝ }
+{
+    if term < 1 {
+        return 0;
+    }
+    if 20 < term {
+        return 0;
+    }
+    row[(term - 1) as usize]
+}
+
+// The lump sum for an option at an age; 0 where none is printed.
+pub fn lump_sum_rate(option: u32, age: u32) -> u32
+    ensures { λ r. ⌜ r ≡ lumpRateOf option age ⌝ }
+{
+    if option < 1 {
+        return 0;
+    }
+    if 2 < option {
+        return 0;
+    }
+    if age < 16 {
+        return 0;
+    }
+    if 64 < age {
+        return 0;
+    }
+    lump_sum::LUMP_SUM[((age - 16) * 2 + (option - 1)) as usize]
+}
