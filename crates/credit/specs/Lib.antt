@@ -1,4 +1,5 @@
 pub mod Years
+pub mod Priced
 pub mod Runs
 pub mod Credit
 pub mod Earned

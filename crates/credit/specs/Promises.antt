@@ -3,12 +3,18 @@
 use mathlib.Core.List.{List}
 use mathlib.Core.Path.{_≡_}
 use Prim.Native.Nat.{ℕ, _+_, _*_, _≤_, _<_, _^_}
+use lib.ListN.{getD}
 use Rattle.rounding.specs.Nearest.{nearest}
 use Rattle.money.specs.declared.PensionPence.{PensionPence}
 use Rattle.money.specs.Money.{pension}
 use Rattle.credit.specs.declared.Earned.{Earned}
-use Rattle.credit.specs.Years.{monthValue}
+use Rattle.credit.specs.Years.{Purchase, unit, yearCredits, monthValue}
 use Rattle.credit.specs.Earned.{creditAt, afterMark}
+
+pub record YearCredits (p : Purchase) (r : List ℕ) : Type 0 where
+  pub is : r ≡ yearCredits nearest p
+  -- no year is worth more than the amount
+  pub most : (n : ℕ) → getD r n 0 ≤ p .units * unit
 
 pub record MonthValue (years : List ℕ) (month : ℕ) (r : PensionPence) : Type 0 where
   pub is : r ≡ pension (monthValue nearest years month)
