@@ -38,6 +38,7 @@ module _ (round : ℕ → ℕ → ℕ) (years : List ℕ) where
   -- outside a run at month i, and inside one that began at month a, where the closed runs earned s
   mutual
     unfolding creditAt afterMark afterMarks earned runsFrom runFrom
+
     outside : (marks : List ℕ) (s i : ℕ)
         → creditAt round years (afterMarks round years (record { month = i; from = i; sum = pension s }) marks)
         ≡ s + earned (monthValue round years) (runsFrom i (paid marks))

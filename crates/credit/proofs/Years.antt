@@ -61,7 +61,7 @@ module _ (round : ℕ → ℕ → ℕ) (half : WithinHalf round) where
           omega (
             arith,
             List·getD-eq-default (yearCredits round p) 0 {n = n}
-            (omega (arith, length-tabulate (yearCredit round p) 0 21, ltb-false n 21 h)),
+                (omega (arith, length-tabulate (yearCredit round p) 0 21, ltb-false n 21 h)),
           )
 
   -- the value at a month is not above all the years

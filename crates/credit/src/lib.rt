@@ -72,7 +72,11 @@ pub struct Earned {
 pub fn nothing_yet() -> Earned
     ensures { λ r. ⌜ r ≡ nothingYet ⌝ }
 {
-    Earned { month: 0, from: 0, sum: PensionPence::none() }
+    Earned {
+        month: 0,
+        from: 0,
+        sum: PensionPence::none(),
+    }
 }
 
 // The credit if no mark follows: an open run ends at the present month.
@@ -92,13 +96,21 @@ pub fn after_mark(e: Earned, years: [u32; 21], mark: u8) -> Earned
     requires { ⌜ Within e ⌝ }
     ensures { λ r. ⌜ After years e mark r ⌝ }
 {
-    let month = e.month + 1;
     if mark == 1 {
         let sum = e.sum;
-        return Earned { month, from: e.from, sum };
+        return Earned {
+            month: e.month + 1,
+            from: e.from,
+            sum,
+        };
     }
     let sum = credit_at(e, years);
-    Earned { month, from: month, sum }
+    let month = e.month + 1;
+    Earned {
+        month,
+        from: month,
+        sum,
+    }
 }
 
 // The credit over the unbroken paid runs of the marks.

@@ -7,8 +7,8 @@ use Rattle.credit.specs.Earned.{afterMark}
 use Rattle.credit.proofs.after_mark.Statement.{statement}
 use Rattle.credit.proofs.after_mark.Tie as tie
 
-add-month : tie.Need-add-month
-add-month c = search needs
+add-t8 : tie.Need-add-t8
+add-t8 c = search needs
 
 returns : tie.Need-returns
 unfolding afterMark
@@ -17,9 +17,12 @@ returns c = record { is = search tests; next = search needs; small = omega arith
 credit-at-requires : tie.Need-credit-at-requires
 credit-at-requires c κs = search needs
 
+add-month : tie.Need-add-month
+add-month c = search needs
+
 returns-2 : tie.Need-returns-2
 unfolding afterMark
-returns-2 c = record { is = search (tests, ← c .credit-at .ensures .is); next = search needs; small = omega arith }
+returns-2 c = record { is = search (tests, ← c .before .credit-at .ensures .is); next = search needs; small = omega arith }
 
 pub after-mark-spec : {M : Type 1} → statement M
-after-mark-spec = tie.close (tie.spec add-month returns credit-at-requires returns-2)
+after-mark-spec = tie.close (tie.spec add-t8 returns credit-at-requires add-month returns-2)

@@ -28,11 +28,11 @@ nothing-yet-requires c κs = search needs
 loop-holds : tie.Need-loop-holds Inv-loop μ-loop
 unfolding afterMarks
 loop-holds c = (
-      search needs,
-      ap (λ (e : Earned). e .month) (c .nothing-yet .ensures),
-      omega (arith, ap (λ (e : Earned). e .sum .0) (c .nothing-yet .ensures)),
-      c .nothing-yet .ensures,
-    )
+  search needs,
+  ap (λ (e : Earned). e .month) (c .nothing-yet .ensures),
+  omega (arith, ap (λ (e : Earned). e .sum .0) (c .nothing-yet .ensures)),
+  c .nothing-yet .ensures,
+)
 
 shared-slice-read-after-mark : tie.Need-shared-slice-read-after-mark Inv-loop μ-loop
 shared-slice-read-after-mark c = search needs

@@ -36,13 +36,13 @@ record Turn (rates : List ℕ) (units term n : ℕ) (own : ContributionPence) (r
 module _ (rates : List ℕ) (units term n : ℕ) (own : ContributionPence) (rate : ℕ) (t : Turn rates units term n own rate) where
   year-fits : Priced (purchase rates units term) → (0 < rate) × (own .0 * unit ≤ (2 ^ 32 - 1) * rate)
   year-fits priced = rw (t .paid, t .rated) (
-        rate-positive (purchase rates units term) priced n (t .low) (t .within),
-        omega (
-          arith,
-          own-most (purchase rates units term) priced n (t .low) (t .within),
-          mul-le-mul-right {m = units * unit} {n = 2 ^ 32 - 1} (rateIn rates n) (omega (arith, priced .amount-fits)),
-        ),
-      )
+    rate-positive (purchase rates units term) priced n (t .low) (t .within),
+    omega (
+      arith,
+      own-most (purchase rates units term) priced n (t .low) (t .within),
+      mul-le-mul-right {m = units * unit} {n = 2 ^ 32 - 1} (rateIn rates n) (omega (arith, priced .amount-fits)),
+    ),
+  )
 
   this-year : (r : ℕ) → r ≡ nearest (own .0 * unit) rate → r ≡ yearCredit nearest (purchase rates units term) n
   this-year r h = h ∙ rw (t .paid, t .rated) (sym (year-within nearest (purchase rates units term) n (t .low) (t .within)))
