@@ -1,7 +1,7 @@
 -- `credit::credit_in` meets its contract. The loop's invariant: the state is that after the first i marks, of which each earned
 -- less than 2 ^ 32 pence. Assumes nothing.
-use mathlib.Core.Path.{_≡_, refl, sym, ap, _∙_}
-use Prim.Native.Nat.{ℕ, _+_, _*_, _-_, _≤_, _^_}
+use mathlib.Core.Path.{_≡_, ap, _∙_}
+use Prim.Native.Nat.{_*_, _-_, _≤_, _^_}
 use native.Mathlib.Omega.{arith}
 use denote.Ref.{now}
 use borrow.Author.Needs.{needs}
@@ -10,7 +10,7 @@ use lib.Seq.{take-all}
 use Rattle.rounding.specs.Nearest.{nearest}
 use Rattle.money.specs.Money.{pension}
 use Rattle.credit.specs.declared.Earned.{Earned}
-use Rattle.credit.specs.Earned.{nothingYet, creditAt, afterMarks}
+use Rattle.credit.specs.Earned.{nothingYet, afterMarks}
 use Rattle.credit.proofs.Runs.{one-mark-more, by-runs}
 use Rattle.credit.proofs.credit_in.Statement.{statement}
 use Rattle.credit.proofs.credit_in.Tie as tie

@@ -9,7 +9,7 @@ use native.Mathlib.Omega.{arith}
 use borrow.Author.Needs.{needs}
 use borrow.Author.Tests.{ltb-true, ltb-false}
 use lib.Dec.{ltb}
-use lib.ListN.{length, getD, set, length-set, getD-replicate}
+use lib.ListN.{length, getD, length-set, getD-replicate}
 use lib.Seq.{getD-set-other}
 use Rattle.common.proofs.Table.{is-tabulate, one-more}
 use Rattle.rounding.specs.Nearest.{nearest}
@@ -76,7 +76,7 @@ turn c =
       paid = rw (← c .before .before .before .before .rate-in .ensures) (c .before .before .before .of-units .ensures);
       rated = c .rate-in2 .ensures;
       low = c .before .before .loop .inv .0;
-      within = c .before .loop-test .taken;
+      within = omega arith;
     }
 
 rate-in-requires : tie.Need-rate-in-requires Inv-loop μ-loop
