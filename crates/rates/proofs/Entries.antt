@@ -1,9 +1,9 @@
 -- Where a monthly table has the entry for an age and a term.
 -- Assumes nothing.
-use mathlib.Core.Path.{_≡_, refl, sym, ap, _∙_}
+use mathlib.Core.Path.{_≡_, refl}
 use mathlib.Core.Bool.{Bool, true, false}
 use mathlib.Core.List.{List, []}
-use Prim.Native.Nat.{ℕ, zero, suc, _+_, _-_, _*_, _≤_, _<_}
+use Prim.Native.Nat.{ℕ, _+_, _-_, _*_, _≤_, _<_}
 use native.Mathlib.Omega.{arith}
 use lib.Dec.{ltb}
 use lib.ListN.{getD}
@@ -18,7 +18,7 @@ pub record Placed (age term : ℕ) : Type 0 where
   pub term-low : 1 ≤ term
   pub term-high : term ≤ 20
 
--- the place counted from the table's first
+-- the place, counted from the table's first
 abbrev pub place : ℕ → ℕ → ℕ
 place age term = (age - 16) * 20 + (term - 1)
 
@@ -27,15 +27,10 @@ unfolding entryOf
 entry-at table age term h =
     rw (le-ltb age 16 (h .age-low), le-ltb 66 age (h .age-high), le-ltb term 1 (h .term-low), le-ltb 20 term (h .term-high))
 
--- a choice that is above 0 is not the 0
+-- a number chosen before 0 by a test that fails
 pub chosen : (b : Bool) (n : ℕ) → 0 < pick b 0 n → (b ≡ false) × (0 < n)
 chosen true n h = absurd (omega arith)
 chosen false n h = (refl, h)
-
--- what holds of 0, and of n where n is above 0
-pub by-positive : (P : ℕ → Type 0) (n : ℕ) → P 0 → (0 < n → P n) → P n
-by-positive P zero none some = none
-by-positive P (suc n) none some = some (omega arith)
 
 pub entry-placed : (table : List ℕ) (age term : ℕ) → 0 < entryOf table age term → Placed age term
 unfolding entryOf
@@ -46,10 +41,10 @@ entry-placed table age term h =
     let d = chosen (ltb 20 term) _ (c .1) in
     omega (arith, ltb-false age 16 (a .0), ltb-false 66 age (b .0), ltb-false term 1 (c .0), ltb-false 20 term (d .0))
 
-same : (b : Bool) → pick {A = ℕ} b 0 0 ≡ 0
-same true = refl
-same false = refl
+zeros : (b : Bool) → pick {A = ℕ} b 0 0 ≡ 0
+zeros true = refl
+zeros false = refl
 
 pub entry-none : (age term : ℕ) → entryOf [] age term ≡ 0
 unfolding entryOf
-entry-none age term = simp same
+entry-none age term = simp zeros

@@ -2,8 +2,7 @@
 -- Assumes nothing.
 use mathlib.Core.Path.{_≡_, refl, ap, _∙_}
 use mathlib.Core.Bool.{Bool, true, false}
-use mathlib.Core.Logic.{⊎-elim}
-use Prim.Native.Nat.{ℕ, suc, _+_, _-_, _%_, _≤_, _<_, zero-le}
+use Prim.Native.Nat.{ℕ, zero, suc, _+_, _-_, _%_, _≤_, _<_, zero-le}
 use native.Mathlib.Nat.{le-refl, le-trans}
 use native.Mathlib.Decide.{le-ind}
 use native.Mathlib.Omega.{arith}
@@ -12,16 +11,14 @@ use lib.Dec.{ltb}
 use borrow.Author.Tests.{ltb-true, ltb-false}
 use Rattle.common.specs.Choice.{pick}
 use Rattle.common.proofs.Table.{length-tabulate, getD-tabulate}
-use Rattle.rates.specs.Rates.{tableOf, rateOf, rowOf, rateIn, lumpRateOf, Printed, LumpPrinted}
-use Rattle.rates.proofs.Entries.{Placed, by-positive, entry-none}
-use Rattle.rates.proofs.Tables.{Known, known-or-empty}
-use Rattle.rates.proofs.Monthly.{Rules, rules, rate-placed}
+use Rattle.rates.specs.Rates.{rateOf, rowOf, rateIn, lumpRateOf, Printed, LumpPrinted}
+use Rattle.rates.proofs.Monthly.{Rules, rules, rate-known, rate-placed}
 use Rattle.rates.proofs.LumpSum as lump
 
-rate-known : (o p age term : ℕ) → 0 < rateOf o p age term → Known o p
-unfolding rateOf
-rate-known o p age term h =
-    ⊎-elim (λ k. k) (λ e. absurd (omega (arith, entry-none age term, rw e at h))) (known-or-empty o p)
+-- what holds of 0, and of n where n is above 0, holds of n
+by-positive : (P : ℕ → Type 0) (n : ℕ) → P 0 → (0 < n → P n) → P n
+by-positive P zero none some = none
+by-positive P (suc n) none some = some (omega arith)
 
 rate-rules : (o p age term : ℕ) → 0 < rateOf o p age term → Rules o p age term
 rate-rules o p age term h = rules o p age term (rate-known o p age term h) (rate-placed o p age term h)
@@ -59,9 +56,13 @@ pub rate-rises : (o p a b term : ℕ) → a ≤ b → 0 < rateOf o p b term → 
 rate-rises o p a b term le last =
     by-positive (λ x. x ≤ rateOf o p b term) _ zero-le λ first.
     le-ind (λ (n : ℕ). Printed o p n term → rateOf o p a term ≤ rateOf o p n term) (λ r. le-refl _)
-    (λ m h above r. le-trans (above (omega (arith, printed o p a term first)))
-      (rules o p m term (omega arith) (omega (arith, printed o p a term first)) .column (shown o p (suc m) term r)))
-    b le (printed o p b term last)
+    (λ m h above r. let here = between m h first r in le-trans (above here) (step m here r)) b le (printed o p b term last)
+  where
+    between : (m : ℕ) → a ≤ m → 0 < rateOf o p a term → Printed o p (suc m) term → Printed o p m term
+    between m h first r = omega (arith, printed o p a term first)
+
+    step : (m : ℕ) → Printed o p m term → Printed o p (suc m) term → rateOf o p m term ≤ rateOf o p (suc m) term
+    step m here r = rules o p m term (omega arith) (omega arith) .column (shown o p (suc m) term r)
 
 pub row-length : (o p age : ℕ) → length (rowOf o p age) ≡ 20
 unfolding rowOf
@@ -85,7 +86,7 @@ rate-in-row o p age term = by (ltb term 1) (ltb 20 term) refl refl
 
 -- the print rule of Table S, both ways
 pub lump-printed : (o age : ℕ) → 0 < lumpRateOf o age → LumpPrinted o age
-lump-printed = lump.lump-printed
+lump-printed = lump.printed
 
 pub lump-shown : (o age : ℕ) → LumpPrinted o age → 0 < lumpRateOf o age
 lump-shown o age r = lump.rules o age r .shown

@@ -1,7 +1,6 @@
-pub mod Walk
-pub mod Entries
-pub mod Tables
-pub mod Rows
-pub mod Monthly
-pub mod LumpSum
+mod Walk
+mod Entries
+mod Tables
+mod Monthly
+mod LumpSum
 pub mod Laws

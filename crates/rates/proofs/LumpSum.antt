@@ -1,4 +1,4 @@
--- The rules of Table S: a computed test, and the law that carries it to each lump sum.
+-- The rules of Table S: a computed test, and the law that carries it to the lump sum for each option and age.
 -- Assumes nothing.
 use mathlib.Core.Path.{_≡_}
 use mathlib.Core.List.{List, [], _∷_}
@@ -11,24 +11,30 @@ use lib.Seq.{getD-drop}
 use borrow.Author.Tests.{ltb-false, le-ltb}
 use Rattle.rates.specs.LumpSum.{lumpSum}
 use Rattle.rates.specs.Rates.{lumpRateOf, LumpPrinted}
-use Rattle.rates.proofs.Walk.{Rule, always, passes, Hold, hold, every, every-at}
+use Rattle.rates.proofs.Walk.{Rule, always, Hold, every, every-at}
 use Rattle.rates.proofs.Entries.{chosen}
 
 abbrev rules-of : ℕ → List Rule
 rules-of x = always 1 x ∷ always x 456000 ∷ always (x % 1000) 0 ∷ []
 
-abbrev table-passes : List ℕ → Type 0
-table-passes l = T (every (λ k s. passes (rules-of (getD s 0 0))) 0 l)
+abbrev rules-at : ℕ → List ℕ → List Rule
+rules-at k s = rules-of (getD s 0 0)
 
-hold-at : (l : List ℕ) → table-passes l → (k : ℕ) → k < length l → Hold (rules-of (getD l k 0))
-hold-at l t k h = hold (rules-of (getD l k 0)) (simp (getD-drop, add-zero) at (every-at (λ k s. passes (rules-of (getD s 0 0))) 0 l t k h))
+table-passes : T (every rules-at 0 lumpSum)
+table-passes = tt
 
-lump-passes : table-passes lumpSum
-lump-passes = tt
+-- over any list, so that nothing computes along the table
+facts : (l : List ℕ) → T (every rules-at 0 l) → (k : ℕ) → k < length l → Hold (rules-of (getD l k 0))
+facts l t k h = simp (getD-drop, add-zero) at (every-at rules-at 0 l t k h)
 
-pub lump-printed : (o age : ℕ) → 0 < lumpRateOf o age → LumpPrinted o age
+rate-at : (o age : ℕ) → LumpPrinted o age → lumpRateOf o age ≡ getD lumpSum ((age - 16) * 2 + (o - 1)) 0
 unfolding lumpRateOf
-lump-printed o age h =
+rate-at o age r =
+    rw (le-ltb o 1 (r .option-low), le-ltb 2 o (r .option-high), le-ltb age 16 (r .age-low), le-ltb 64 age (r .age-high))
+
+pub printed : (o age : ℕ) → 0 < lumpRateOf o age → LumpPrinted o age
+unfolding lumpRateOf
+printed o age h =
     let a = chosen (ltb o 1) _ h in
     let b = chosen (ltb 2 o) _ (a .1) in
     let c = chosen (ltb age 16) _ (b .1) in
@@ -41,13 +47,8 @@ pub record Rules (o age : ℕ) : Type 0 where
   pub most : lumpRateOf o age ≤ 456000
   pub tens : lumpRateOf o age % 1000 ≡ 0
 
-rate-at : (o age : ℕ) → LumpPrinted o age → lumpRateOf o age ≡ getD lumpSum ((age - 16) * 2 + (o - 1)) 0
-unfolding lumpRateOf
-rate-at o age r =
-    rw (le-ltb o 1 (r .option-low), le-ltb 2 o (r .option-high), le-ltb age 16 (r .age-low), le-ltb 64 age (r .age-high))
-
 pub rules : (o age : ℕ) → LumpPrinted o age → Rules o age
 rules o age r =
-    let facts = hold-at lumpSum lump-passes ((age - 16) * 2 + (o - 1)) (omega arith) in
-    let e = rate-at o age r in
+    let x = rate-at o age r in
+    let f = facts lumpSum table-passes ((age - 16) * 2 + (o - 1)) (omega arith) in
     record { shown = omega arith; most = omega arith; tens = omega arith }

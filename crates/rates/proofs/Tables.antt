@@ -1,15 +1,18 @@
--- Which options and pension ages have a monthly table.
+-- Which options and pension ages have a monthly table, and what the row of rates is then and otherwise.
 -- Assumes nothing.
 use mathlib.Core.Path.{_≡_, refl}
-use mathlib.Core.Logic.{_⊎_, inl, inr}
+use mathlib.Core.Logic.{_⊎_, inl, inr, ⊎-elim}
 use mathlib.Core.Bool.{Bool, true, false}
 use mathlib.Core.List.{List, []}
 use Prim.Native.Nat.{ℕ, _≤_}
 use native.Mathlib.Omega.{arith}
 use lib.Dec.{eqb}
+use lib.ListN.{replicate}
 use borrow.Author.Tests.{eqb-true}
 use Rattle.common.specs.Choice.{pick}
-use Rattle.rates.specs.Rates.{ofFour, tableOf}
+use Rattle.common.specs.Table.{tabulate}
+use Rattle.rates.specs.Rates.{ofFour, tableOf, entryOf, rateOf, rowOf}
+use Rattle.rates.proofs.Entries.{entry-none}
 
 -- an option and a pension age that have a table
 pub record Known (option pensionAge : ℕ) : Type 0 where
@@ -18,7 +21,7 @@ pub record Known (option pensionAge : ℕ) : Type 0 where
   pub pension-low : 65 ≤ pensionAge
   pub pension-high : pensionAge ≤ 68
 
--- a choice is empty unless the option and the pension age have a table, where each of the two is
+-- what is known or empty for both lists of a choice is so for the choice
 either : (K : Type 0) (b : Bool) (l m : List ℕ) → (b ≡ true → K ⊎ (l ≡ [])) → K ⊎ (m ≡ []) → K ⊎ (pick b l m ≡ [])
 either K true l m f g = f refl
 either K false l m f g = g
@@ -35,3 +38,13 @@ unfolding tableOf
 known-or-empty o p =
     either (Known o p) (eqb o 1) _ _ (λ e. four o p _ _ _ _ (omega (arith, eqb-true o 1 e)) (omega (arith, eqb-true o 1 e)))
     (either (Known o p) (eqb o 2) _ [] (λ e. four o p _ _ _ _ (omega (arith, eqb-true o 2 e)) (omega (arith, eqb-true o 2 e))) (inr refl))
+
+-- the line of the table is the row of rates; no table, a row of zeros
+pub row-chosen : {row : List ℕ} {option pensionAge : ℕ} (o p age : ℕ) → option ≡ o → pensionAge ≡ p
+    → row ≡ tabulate (entryOf (tableOf o p) age) 1 20 → row ≡ rowOf option pensionAge age
+unfolding rowOf rateOf
+row-chosen o p age eo ep e = rw (eo, ep) e
+
+pub row-none : (o p age : ℕ) → (Known o p → ⊥) → replicate 20 0 ≡ rowOf o p age
+unfolding rowOf rateOf tabulate
+row-none o p age n = ⊎-elim (λ k. absurd (n k)) (λ e. rw e (simp entry-none)) (known-or-empty o p)

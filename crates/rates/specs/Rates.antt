@@ -21,7 +21,7 @@ tableOf option pensionAge =
     pick (eqb option 1) (ofFour pensionAge p65 p66 p67 p68)
     (pick (eqb option 2) (ofFour pensionAge d65 d66 d67 d68) [])
 
--- 'Rates': what a monthly table has at an age and a term, of its lines for the ages 16 to 66 and its places for the terms 1 to 20
+-- 'Rates': the entry of a monthly table, which has a line for each age from 16 to 66 and in it a place for each term from 1 to 20
 unfoldable pub entryOf : List ℕ → ℕ → ℕ → ℕ
 entryOf table age term =
     pick (ltb age 16) 0
@@ -40,7 +40,7 @@ rowOf option pensionAge age = tabulate (rateOf option pensionAge age) 1 20
 unfoldable pub rateIn : List ℕ → ℕ → ℕ
 rateIn row term = pick (ltb term 1) 0 (pick (ltb 20 term) 0 (getD row (term - 1) 0))
 
--- 'Rates': the lump sum of Table S, 0 where none is printed
+-- 'Rates': the lump sum of Table S, which has two places for each age, option 1 and option 2; 0 where none is printed
 unfoldable pub lumpRateOf : ℕ → ℕ → ℕ
 lumpRateOf option age =
     pick (ltb option 1) 0
@@ -58,7 +58,7 @@ pub record Printed (option pensionAge age term : ℕ) : Type 0 where
   pub term-high : term ≤ 20
   pub before : age + term ≤ pensionAge - 1
 
--- 'Rates': a lump sum is printed for either option at the ages 16 to 64
+-- 'Rates': Table S has a lump sum for either option at each age from 16 to 64
 pub record LumpPrinted (option age : ℕ) : Type 0 where
   pub option-low : 1 ≤ option
   pub option-high : option ≤ 2

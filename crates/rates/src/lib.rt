@@ -3,9 +3,9 @@ ghost use mathlib.Core.Path.{_≡_};
 ghost use Rattle.common.specs.Table.{tabulate};
 ghost use Rattle.rates.specs.Rates.{entryOf, rowOf, rateIn, lumpRateOf};
 
-mod personal;
 mod dependant;
 mod lump_sum;
+mod personal;
 
 // The line of a monthly table for an age; zeros where it has none.
 fn row_at(table: &[u32; 1020], age: u32) -> [u32; 20]
@@ -28,6 +28,7 @@ fn row_at(table: &[u32; 1020], age: u32) -> [u32; 20]
 }
 
 // The monthly rates at an age, for the terms 1 to 20; 0 where none is printed.
+// A call builds its table on the stack: fetch a row once for a contract, and take the rates from it.
 pub fn monthly_row(option: u32, pension_age: u32, age: u32) -> [u32; 20]
     ensures { λ r. ⌜ r ≡ rowOf option «pension_age» age ⌝ }
 {

@@ -3,12 +3,9 @@
 use native.Mathlib.Omega.{arith}
 use borrow.Author.Needs.{needs}
 use Rattle.rates.specs.Rates.{tableOf}
-use Rattle.rates.proofs.Rows.{row-chosen, row-none}
+use Rattle.rates.proofs.Tables.{row-chosen, row-none}
 use Rattle.rates.proofs.monthly_row.Statement.{statement}
 use Rattle.rates.proofs.monthly_row.Tie as tie
-use Rattle.rates.proofs.monthly_row.Reads as reads
-use Rattle.rates.proofs.monthly_row.Lts as lts
-use Rattle.rates.proofs.row_at.Reads as row-at-reads
 
 row-at-requires : tie.Need-row-at-requires
 row-at-requires c κs = search needs

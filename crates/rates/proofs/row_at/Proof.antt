@@ -1,6 +1,7 @@
 -- `rates::row_at` meets its contract. The loop's invariant: the first k places hold the table's entries for the terms 1 to k.
 -- Assumes nothing.
 use mathlib.Core.Path.{_≡_, refl, sym}
+use mathlib.Core.List.{List}
 use Prim.Native.Nat.{ℕ, _+_, _-_, _*_, _≤_, _<_}
 use native.Mathlib.Omega.{arith}
 use lib.ListN.{length, getD, length-set}
@@ -12,8 +13,6 @@ use Rattle.rates.specs.Rates.{entryOf}
 use Rattle.rates.proofs.Entries.{place, entry-at}
 use Rattle.rates.proofs.row_at.Statement.{statement}
 use Rattle.rates.proofs.row_at.Tie as tie
-use Rattle.rates.proofs.row_at.Reads as reads
-use Rattle.rates.proofs.row_at.Lts as lts
 
 abbrev Inv-loop : tie.InvT-loop
 Inv-loop table age row₀ start k₀ row k =
@@ -60,14 +59,19 @@ add-k c = search needs
 loop-less : tie.Need-loop-less Inv-loop μ-loop
 loop-less c = search needs
 
+-- the entry for the term k + 1 is k places on in the line
+next : (table : List ℕ) (age k : ℕ) → 16 ≤ age → age ≤ 66 → k < 20 → getD table ((age - 16) * 20 + k) 0 ≡ entryOf table age (1 + k)
+next table age k low high h =
+    let same : (age - 16) * 20 + k ≡ place age (1 + k) = omega arith in
+    rw same (sym (entry-at table age (1 + k) (omega arith)))
+
 loop-again : tie.Need-loop-again Inv-loop μ-loop
 loop-again c =
     let l = c .before .before .loop in
     let a = c .before .before .before .before .before .args in
-    let n : (a .age - 16) * 20 + l .k ≡ place (a .age) (1 + l .k) = omega arith in
-    (omega arith, simp length-set (l .inv .1),
-      one-more (l .row) (λ (n : ℕ). entryOf (a .table .now) (a .age) (1 + n)) (l .k) _ (omega arith) (l .inv .2)
-      (rw n (sym (entry-at (a .table .now) (a .age) (1 + l .k) (omega arith)))))
+    let entry = entryOf (a .table .now) (a .age) in
+    let more = one-more (l .row) (λ (n : ℕ). entry (1 + n)) (l .k) _ (omega arith) (l .inv .2) (next _ _ _ (omega arith) (omega arith) (omega arith)) in
+    (omega arith, simp length-set (l .inv .1), more)
 
 returns-3 : tie.Need-returns-3 Inv-loop μ-loop
 returns-3 c = is-tabulate _ _ 1 20 (c .before .loop .inv .1) (λ n h. c .before .loop .inv .2 n (omega arith))
