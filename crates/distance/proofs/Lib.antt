@@ -2,3 +2,10 @@ pub mod Steps
 pub mod Line
 pub mod Years
 pub mod Months
+pub mod Runs
+pub mod Near
+pub mod Common
+pub mod Exact
+pub mod Table
+pub mod Distance
+pub mod Amount

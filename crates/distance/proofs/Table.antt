@@ -1,0 +1,78 @@
+-- One table: the credit of marks that begin paid lies within 2k − 1 pence of the exact credit.
+-- Assumes nothing.
+use mathlib.Core.Bool.{Bool, true}
+use mathlib.Core.List.{List, _∷_}
+use mathlib.Core.Logic.{_⊎_, inl, inr}
+use mathlib.Core.Path.{_≡_, ap, _∙_}
+use Prim.Native.Nat.{ℕ, suc, _+_, _*_, _-_, _/_, _%_, _≤_, _<_}
+use native.Mathlib.Nat.{mul-le-mul-left, le-of-mul-le-mul-right}
+use native.Mathlib.Omega.{arith}
+use lib.ListN.{length}
+use Rattle.rounding.specs.Rounding.{WithinHalf}
+use Rattle.credit.specs.Years.{Purchase, ownContribution, unit, yearCredit, yearCredits, monthValue}
+use Rattle.credit.specs.Runs.{paid, runsIn, startsAfter, runCount}
+use Rattle.credit.specs.Credit.{creditOver, creditIn}
+use Rattle.distance.specs.Exact.{exactCredit}
+use Rattle.distance.specs.Distance.{Within, Falling}
+use Rattle.distance.proofs.Common.{within}
+use Rattle.distance.proofs.Exact.{denominator, share, exactOver, monthOver, denominator-positive, over-exact, over-step, exact-is}
+use Rattle.distance.proofs.Line.{line}
+use Rattle.distance.proofs.Months.{on-line, month-year}
+use Rattle.distance.proofs.Near.{Close, near-first}
+use Rattle.distance.proofs.Runs.{length-paid}
+use Rattle.distance.proofs.Years.{year-none, year-at, year-or-none}
+
+-- a month between two years, each within a half of its exact height, by weights w and j of twelve; its own rounding is the other half
+between : (w j y z a b v D : ℕ) → w + j ≡ 12 → Close (2 * D * y) (2 * a) D → Close (2 * D * z) (2 * b) D
+    → 2 * 12 * v ≤ 2 * (w * y + j * z) + 12 → 2 * (w * y + j * z) ≤ 2 * 12 * v + 12 → Close (12 * D * v) (w * a + j * b) (12 * D)
+between w j y z a b v D s hy hz above below =
+    omega (
+      arith,
+      mul-le-mul-left w (hy .0),
+      mul-le-mul-left w (hy .1),
+      mul-le-mul-left j (hz .0),
+      mul-le-mul-left j (hz .1),
+      mul-le-mul-left D above,
+      mul-le-mul-left D below,
+      ap (λ t. D * t) s,
+    )
+
+module _ (round : ℕ → ℕ → ℕ) (half : WithinHalf round) (p : Purchase) (short : p .term ≤ 20) (falling : Falling p) where
+  year-near : (n : ℕ) → Close (2 * denominator p * yearCredit round p n) (2 * exactOver p n) (denominator p)
+  year-near n = go (year-or-none p n)
+    where
+      go : ((r : ℕ → ℕ → ℕ) → yearCredit r p n ≡ 0) ⊎ ((0 < n) × (n ≤ p .term))
+          → Close (2 * denominator p * yearCredit round p n) (2 * exactOver p n) (denominator p)
+      go (inl none) = rw (none round, none (share p)) (omega arith)
+      go (inr h) =
+          let r = p .rate n in
+          let q = ownContribution p * unit in
+          let r0 : 0 < r = falling .positive n (h .0) (h .1) in
+          let e = over-exact p falling n (h .0) (h .1) in
+          rw (year-at round p n (h .0) (h .1))
+          (
+            le-of-mul-le-mul-right {k = r} (omega (arith, mul-le-mul-left (denominator p) (half .above q r r0))) r0,
+            le-of-mul-le-mul-right {k = r} (omega (arith, mul-le-mul-left (denominator p) (half .below q r r0))) r0,
+          )
+
+  month-near : (i : ℕ) → Close (12 * denominator p * monthValue round (yearCredits round p) i) (line (exactOver p) i) (12 * denominator p)
+  month-near i =
+      rw (on-line p short round i)
+      (between (12 - i % 12) (i % 12) (yearCredit round p (i / 12)) (yearCredit round p (suc (i / 12))) (exactOver p (i / 12))
+      (exactOver p (suc (i / 12))) (round (line (yearCredit round p) i) 12) (denominator p) (omega arith) (year-near (i / 12))
+      (year-near (suc (i / 12))) (half .above (line (yearCredit round p) i) 12 (omega arith))
+      (half .below (line (yearCredit round p) i) 12 (omega arith)))
+
+  pub table-distance : (marks : List ℕ) (rest : List Bool) → paid marks ≡ true ∷ rest → length marks ≤ 12 * p .term
+      → Within (creditIn round p marks) (exactCredit p marks) (2 * (2 * runCount marks - 1))
+  unfolding creditIn creditOver exactCredit runsIn runCount startsAfter
+  table-distance marks rest e h =
+      let l : suc (length rest) ≤ 12 * p .term = omega (arith, length-paid marks, ap length e) in
+      let none : monthValue round (yearCredits round p) 0 ≡ 0 = month-year p short round half 0 ∙ year-none round p in
+      let none′ : line (exactOver p) 0 ≡ 0 = omega (arith, year-none (share p) p) in
+      let near = near-first (monthValue round (yearCredits round p)) (line (exactOver p)) (monthOver p) (12 * denominator p)
+      (12 * p .term) (over-step p falling) (λ i g. month-near i) none none′ rest l in
+      let bound : 2 * (2 * suc (startsAfter true rest) - 1) ≡ 4 * startsAfter true rest + 2 = omega arith in
+      rw (e, bound)
+      (within _ _ (omega (arith, denominator-positive p falling)) (exact-is p falling (true ∷ rest) 0 (omega arith))
+      (omega (arith, near)))
