@@ -1,14 +1,14 @@
 -- Demand 3 of document 01: the credit of a contract lies within 2k − 1 pence of the exact credit, half a penny more with odd months.
 -- Assumes nothing.
-use mathlib.Core.Bool.{Bool, true, false}
+use mathlib.Core.Bool.{Bool, true}
 use mathlib.Core.List.{List, _∷_}
+use mathlib.Core.Logic.{⊎-elim}
 use mathlib.Core.Path.{_≡_, ap}
-use Prim.Native.Nat.{ℕ, zero, suc, _+_, _*_, _-_, _≤_, _<_}
-use native.Mathlib.Nat.{add-zero, mul-le-mul-left, mul-pos}
+use Prim.Native.Nat.{ℕ, _+_, _*_, _-_, _≤_, _<_}
+use native.Mathlib.Nat.{eq-zero-or-pos, mul-le-mul-left, mul-le-mul-right, mul-pos}
 use native.Mathlib.Omega.{arith}
-use lib.Dec.{eqb, eqb·suc-zero}
+use borrow.Author.Tests.{eq-eqb, ne-eqb}
 use lib.ListN.{length}
-use Rattle.common.specs.Choice.{pick}
 use Rattle.rounding.specs.Nearest.{blendBy}
 use Rattle.rounding.specs.Rounding.{WithinHalf}
 use Rattle.credit.specs.Runs.{paid, runCount}
@@ -17,18 +17,19 @@ use Rattle.distance.specs.Fraction.{Fraction}
 use Rattle.distance.specs.Exact.{exactCredit, exactBlend}
 use Rattle.distance.specs.Distance.{Within, halfPence, Contract, creditBy, exactly, Sound}
 use Rattle.distance.proofs.Table.{table-distance}
+use Rattle.distance.proofs.Tables.{tables}
 
--- a claim for whole pension ages and for odd months
-pub at-odd : (P : Bool → Type 0) (odd : ℕ) → P true → (0 < odd → P false) → P (eqb odd 0)
-at-odd P zero whole blended = whole
-at-odd P (suc m) whole blended = rw (eqb·suc-zero m) (blended (omega arith))
+widen : {c h : ℕ} {x : Fraction} (g : ℕ) → h ≤ g → Within c x h → Within c x g
+widen {x = x} g l a =
+    let m = mul-le-mul-right (x .den) l in
+    record { positive = a .positive; above = omega arith; below = omega arith }
 
 -- the rounding of a blend adds a half penny
 blend-within : (round : ℕ → ℕ → ℕ) → WithinHalf round → (m lo hi h : ℕ) (x y : Fraction) → m < 12
     → Within lo x h → Within hi y h → Within (blendBy round m lo hi) (exactBlend m x y) (h + 1)
 blend-within round half m lo hi h x y l a b =
-    let s : (12 - m) + m ≡ 12 = omega arith in
     let d = x .den * y .den in
+    let s = ap (λ t. t * (h * d)) {x = (12 - m) + m} {y = 12} (omega arith) in
     record {
       positive = mul-pos (mul-pos (a .positive) (b .positive)) (omega arith);
       above =
@@ -37,7 +38,6 @@ blend-within round half m lo hi h x y l a b =
             mul-le-mul-left ((12 - m) * y .den) (a .above),
             mul-le-mul-left (m * x .den) (b .above),
             mul-le-mul-left d (half .above ((12 - m) * lo + m * hi) 12 (omega arith)),
-            ap (λ t. t * (h * d)) s,
           );
       below =
           omega (
@@ -45,7 +45,6 @@ blend-within round half m lo hi h x y l a b =
             mul-le-mul-left ((12 - m) * y .den) (a .below),
             mul-le-mul-left (m * x .den) (b .below),
             mul-le-mul-left d (half .below ((12 - m) * lo + m * hi) 12 (omega arith)),
-            ap (λ t. t * (h * d)) s,
           );
     }
 
@@ -54,14 +53,9 @@ pub distance : (round : ℕ → ℕ → ℕ) → WithinHalf round → (c : Contr
     → Within (creditBy round c marks) (exactly c marks) (halfPence (c .odd) (runCount marks))
 distance round half c sound marks fits rest begins =
     let h = 2 * (2 * runCount marks - 1) in
-    let lo = creditIn round (c .lower) marks in
-    let hi = creditIn round (c .upper) marks in
-    let x = exactCredit (c .lower) marks in
-    let y = exactCredit (c .upper) marks in
-    let fits′ : length marks ≤ 12 * c .upper .term = rw (sound .same-term) fits in
-    let lower : Within lo x h = table-distance round half (c .lower) (sound .term-most) (sound .lower-falls) marks rest begins fits in
-    at-odd (λ b. Within (pick b lo (blendBy round (c .odd) lo hi)) (pick b x (exactBlend (c .odd) x y)) (h + pick b 0 1))
-    (c .odd)
-    (rw add-zero lower)
-    (λ odd. blend-within round half (c .odd) lo hi h x y (sound .odd-most) lower
-    (table-distance round half (c .upper) (omega (arith, sound .same-term)) (sound .upper-falls odd) marks rest begins fits′))
+    let near = tables c sound (λ p. Within (creditIn round p marks) (exactCredit p marks) h)
+    (λ p term units short falling. table-distance round half p short falling marks rest begins (rw term fits)) in
+    ⊎-elim (λ none. rw (eq-eqb (c .odd) 0 none) (widen _ (omega arith) (near .0)))
+    (λ odd. rw (ne-eqb (c .odd) 0 (λ e. omega arith))
+    (widen _ (omega arith) (blend-within round half (c .odd) _ _ h _ _ (sound .odd-most) (near .0) (near .1 odd))))
+    (eq-zero-or-pos (c .odd))

@@ -10,7 +10,7 @@ use lib.ListN.{length}
 use Rattle.credit.specs.Years.{Purchase, ownContribution, unit, yearCredit}
 use Rattle.distance.specs.Exact.{exactYear, exactMonth, exactFrom}
 use Rattle.distance.specs.Distance.{Falling}
-use Rattle.distance.proofs.Common.{Is, none-is, plus-is, minus-is, divided-is, product, product-positive, divides-product}
+use Rattle.distance.proofs.Denominator.{Is, none-is, plus-is, minus-is, divided-is, product, product-positive, divides-product}
 use Rattle.distance.proofs.Line.{line, line-step}
 use Rattle.distance.proofs.Near.{added}
 use Rattle.distance.proofs.Years.{year-none, year-at}

@@ -4,8 +4,9 @@ pub mod Years
 pub mod Months
 pub mod Runs
 pub mod Near
-pub mod Common
+pub mod Denominator
 pub mod Exact
 pub mod Table
+pub mod Tables
 pub mod Distance
 pub mod Amount

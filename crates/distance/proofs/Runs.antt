@@ -59,12 +59,12 @@ module _ (N : ℕ) (r : Run) where
   run-lies marks h = lies-outside (paid marks) 0 (omega (arith, length-paid marks))
 
 -- no run's difference of values is cut off at 0
-pub run-rises : (p : Purchase) → p .term ≤ 20 → Falling p → (round : ℕ → ℕ → ℕ) → Monotone round
+pub run-rises : (round : ℕ → ℕ → ℕ) → Monotone round → (p : Purchase) → p .term ≤ 20 → Falling p
     → (marks : List ℕ) → length marks ≤ 12 * p .term → (r : Run) → List·Memᴰ r (runsIn marks)
     → monthValue round (yearCredits round p) (r .from) ≤ monthValue round (yearCredits round p) (r .to)
-run-rises p short falling round mono marks h r m =
+run-rises round mono p short falling marks h r m =
     let l : Lies (12 * p .term) r = run-lies (12 * p .term) r marks h m in
-    month-rises p short round falling mono (r .from) (r .to) (omega arith) (l .1)
+    month-rises round mono p short falling (r .from) (r .to) (omega arith) (l .1)
 
 -- the runs lie one after another, so together they earn at most what the values rise from their first month to month N
 module _ (value : ℕ → ℕ) (N : ℕ) (up : (a b : ℕ) → a ≤ b → b ≤ N → value a ≤ value b) where

@@ -2,7 +2,7 @@
 -- Assumes nothing.
 use mathlib.Core.Bool.{Bool, true}
 use mathlib.Core.List.{List, _∷_}
-use mathlib.Core.Logic.{_⊎_, inl, inr}
+use mathlib.Core.Logic.{⊎-elim}
 use mathlib.Core.Path.{_≡_, ap, _∙_}
 use Prim.Native.Nat.{ℕ, suc, _+_, _*_, _-_, _/_, _%_, _≤_, _<_}
 use native.Mathlib.Nat.{mul-le-mul-left, le-of-mul-le-mul-right}
@@ -14,7 +14,7 @@ use Rattle.credit.specs.Runs.{paid, runsIn, startsAfter, runCount}
 use Rattle.credit.specs.Credit.{creditOver, creditIn}
 use Rattle.distance.specs.Exact.{exactCredit}
 use Rattle.distance.specs.Distance.{Within, Falling}
-use Rattle.distance.proofs.Common.{within}
+use Rattle.distance.proofs.Denominator.{within}
 use Rattle.distance.proofs.Exact.{denominator, share, exactOver, monthOver, denominator-positive, over-exact, over-step, exact-is}
 use Rattle.distance.proofs.Line.{line}
 use Rattle.distance.proofs.Months.{on-line, month-year}
@@ -39,25 +39,21 @@ between w j y z a b v D s hy hz above below =
 
 module _ (round : ℕ → ℕ → ℕ) (half : WithinHalf round) (p : Purchase) (short : p .term ≤ 20) (falling : Falling p) where
   year-near : (n : ℕ) → Close (2 * denominator p * yearCredit round p n) (2 * exactOver p n) (denominator p)
-  year-near n = go (year-or-none p n)
+  year-near n = ⊎-elim (λ none. rw (none round, none (share p)) (omega arith)) (λ h. in-term (h .0) (h .1)) (year-or-none p n)
     where
-      go : ((r : ℕ → ℕ → ℕ) → yearCredit r p n ≡ 0) ⊎ ((0 < n) × (n ≤ p .term))
-          → Close (2 * denominator p * yearCredit round p n) (2 * exactOver p n) (denominator p)
-      go (inl none) = rw (none round, none (share p)) (omega arith)
-      go (inr h) =
-          let r = p .rate n in
+      in-term : 0 < n → n ≤ p .term → Close (2 * denominator p * yearCredit round p n) (2 * exactOver p n) (denominator p)
+      in-term a b =
           let q = ownContribution p * unit in
-          let r0 : 0 < r = falling .positive n (h .0) (h .1) in
-          let e = over-exact p falling n (h .0) (h .1) in
-          rw (year-at round p n (h .0) (h .1))
-          (
-            le-of-mul-le-mul-right {k = r} (omega (arith, mul-le-mul-left (denominator p) (half .above q r r0))) r0,
-            le-of-mul-le-mul-right {k = r} (omega (arith, mul-le-mul-left (denominator p) (half .below q r r0))) r0,
+          let r = falling .positive n a b in
+          let e = over-exact p falling n a b in
+          rw (year-at round p n a b) (
+            le-of-mul-le-mul-right (omega (arith, mul-le-mul-left (denominator p) (half .above q (p .rate n) r))) r,
+            le-of-mul-le-mul-right (omega (arith, mul-le-mul-left (denominator p) (half .below q (p .rate n) r))) r,
           )
 
   month-near : (i : ℕ) → Close (12 * denominator p * monthValue round (yearCredits round p) i) (line (exactOver p) i) (12 * denominator p)
   month-near i =
-      rw (on-line p short round i)
+      rw (on-line round p short i)
       (between (12 - i % 12) (i % 12) (yearCredit round p (i / 12)) (yearCredit round p (suc (i / 12))) (exactOver p (i / 12))
       (exactOver p (suc (i / 12))) (round (line (yearCredit round p) i) 12) (denominator p) (omega arith) (year-near (i / 12))
       (year-near (suc (i / 12))) (half .above (line (yearCredit round p) i) 12 (omega arith))
@@ -68,7 +64,7 @@ module _ (round : ℕ → ℕ → ℕ) (half : WithinHalf round) (p : Purchase) 
   unfolding creditIn creditOver exactCredit runsIn runCount startsAfter
   table-distance marks rest e h =
       let l : suc (length rest) ≤ 12 * p .term = omega (arith, length-paid marks, ap length e) in
-      let none : monthValue round (yearCredits round p) 0 ≡ 0 = month-year p short round half 0 ∙ year-none round p in
+      let none : monthValue round (yearCredits round p) 0 ≡ 0 = month-year round half p short 0 ∙ year-none round p in
       let none′ : line (exactOver p) 0 ≡ 0 = omega (arith, year-none (share p) p) in
       let near = near-first (monthValue round (yearCredits round p)) (line (exactOver p)) (monthOver p) (12 * denominator p)
       (12 * p .term) (over-step p falling) (λ i g. month-near i) none none′ rest l in

@@ -1,6 +1,6 @@
 -- The whole-year credits of one table: what the row holds, that they never fall, and that none passes the amount.
 -- Assumes nothing.
-use mathlib.Core.Logic.{_⊎_, inl, inr}
+use mathlib.Core.Logic.{_⊎_, inl, inr, ⊎-elim}
 use mathlib.Core.Path.{_≡_, refl, sym, ap, _∙_}
 use Prim.Native.Nat.{ℕ, zero, suc, _+_, _*_, _≤_, _<_}
 use native.Mathlib.Decide.{decLe, decLt}
@@ -49,26 +49,24 @@ year-or-none p (suc n) = go (decLe (suc n) (p .term))
     go (yes h) = inr (omega arith, h)
     go (no h) = inl (λ round. year-past round p (suc n) (omega arith))
 
-module _ (p : Purchase) (falling : Falling p) where
-  rate-falls : (a b : ℕ) → 0 < a → a ≤ b → b ≤ p .term → p .rate b ≤ p .rate a
-  rate-falls a b h =
-      onward (λ n. p .rate n ≤ p .rate a) a (p .term) (le-refl (p .rate a)) (λ n g l before. le-trans (falling .falls n (omega arith) l) before) b
+rate-falls : (p : Purchase) → Falling p → (a b : ℕ) → 0 < a → a ≤ b → b ≤ p .term → p .rate b ≤ p .rate a
+rate-falls p falling a b h =
+    onward (λ n. p .rate n ≤ p .rate a) a (p .term) (le-refl (p .rate a)) (λ n g l before. le-trans (falling .falls n (omega arith) l) before) b
 
-  -- no year's credit passes the amount
-  pub year-most : (round : ℕ → ℕ → ℕ) → WithinHalf round → (n : ℕ) → yearCredit round p n ≤ p .units * unit
-  year-most round half n = go (year-or-none p n)
-    where
-      go : ((r : ℕ → ℕ → ℕ) → yearCredit r p n ≡ 0) ⊎ ((0 < n) × (n ≤ p .term)) → yearCredit round p n ≤ p .units * unit
-      go (inl none) = rw (none round) (omega arith)
-      go (inr h) =
-          rw (year-at round p n (h .0) (h .1))
-          (round-most round half (ownContribution p * unit) (p .rate n) (p .units * unit) (falling .positive n (h .0) (h .1))
-          (omega (arith, mul-le-mul-left (p .units) (rate-falls n (p .term) (h .0) (h .1) (le-refl (p .term))))))
+-- no year's credit passes the amount
+pub year-most : (round : ℕ → ℕ → ℕ) → WithinHalf round → (p : Purchase) → Falling p → (n : ℕ) → yearCredit round p n ≤ p .units * unit
+year-most round half p falling n =
+    ⊎-elim (λ none. rw (none round) (omega arith))
+    (λ h. rw (year-at round p n (h .0) (h .1))
+    (round-most round half (ownContribution p * unit) (p .rate n) (p .units * unit) (falling .positive n (h .0) (h .1))
+    (omega (arith, mul-le-mul-left (p .units) (rate-falls p falling n (p .term) (h .0) (h .1) (le-refl (p .term)))))))
+    (year-or-none p n)
 
-  pub year-rises : (round : ℕ → ℕ → ℕ) → Monotone round → (n : ℕ) → n < p .term → yearCredit round p n ≤ yearCredit round p (suc n)
-  year-rises round mono zero h = rw (year-none round p) (omega arith)
-  year-rises round mono (suc n) h =
-      rw (year-at round p (suc n) (omega arith) (omega arith), year-at round p (suc (suc n)) (omega arith) h)
-      (mono .keeps (ownContribution p * unit) (p .rate (suc n)) (ownContribution p * unit) (p .rate (suc (suc n)))
-      (falling .positive (suc n) (omega arith) (omega arith)) (falling .positive (suc (suc n)) (omega arith) h)
-      (mul-le-mul-left (ownContribution p * unit) (falling .falls (suc n) (omega arith) h)))
+pub year-rises : (round : ℕ → ℕ → ℕ) → Monotone round → (p : Purchase) → Falling p → (n : ℕ) → n < p .term
+    → yearCredit round p n ≤ yearCredit round p (suc n)
+year-rises round mono p falling zero h = rw (year-none round p) (omega arith)
+year-rises round mono p falling (suc n) h =
+    let own = ownContribution p * unit in
+    rw (year-at round p (suc n) (omega arith) (omega arith), year-at round p (suc (suc n)) (omega arith) h)
+    (mono .keeps own (p .rate (suc n)) own (p .rate (suc (suc n))) (falling .positive (suc n) (omega arith) (omega arith))
+    (falling .positive (suc (suc n)) (omega arith) h) (mul-le-mul-left own (falling .falls (suc n) (omega arith) h)))

@@ -11,7 +11,6 @@ infixl 65 _plus_
 infixl 65 _minus_
 infixr 70 _times_
 infixl 62 _dividedBy_
-
 -- the fraction n ÷ d
 abbrev pub _over_ : ℕ → ℕ → Fraction
 n over d = record { num = n; den = d }
