@@ -4,11 +4,9 @@ use mathlib.Core.List.{List, [], _∷_}
 use mathlib.Core.Logic.{⊎-elim}
 use mathlib.Core.Path.{_≡_, ap, _∙_}
 use Prim.Native.Nat.{ℕ, zero, suc, _+_, _*_, _-_, _≤_, _<_}
-use native.Mathlib.Nat.{eq-zero-or-pos, le-refl, le-antisymm}
+use native.Mathlib.Nat.{le-refl, le-antisymm}
 use native.Mathlib.Omega.{arith}
-use borrow.Author.Tests.{eq-eqb, ne-eqb}
 use lib.ListN.{length, replicate}
-use Rattle.rounding.specs.Nearest.{blendBy}
 use Rattle.rounding.specs.Rounding.{WithinHalf, Monotone}
 use Rattle.rounding.proofs.Laws.{round-whole, blended-most, blended-least}
 use Rattle.credit.specs.Years.{Purchase, ownContribution, unit, yearCredits, monthValue}
@@ -19,14 +17,6 @@ use Rattle.distance.proofs.Months.{month-year, month-most, month-rises}
 use Rattle.distance.proofs.Runs.{earned-most}
 use Rattle.distance.proofs.Tables.{tables}
 use Rattle.distance.proofs.Years.{year-none, year-at}
-
--- what holds of both tables' credits and of their blend holds of the contract's credit
-by-tables : (P : ℕ → Type 0) (round : ℕ → ℕ → ℕ) (c : Contract) (marks : List ℕ) → P (creditIn round (c .lower) marks)
-    → (0 < c .odd → P (blendBy round (c .odd) (creditIn round (c .lower) marks) (creditIn round (c .upper) marks)))
-    → P (creditBy round c marks)
-by-tables P round c marks whole blended =
-    ⊎-elim (λ none. rw (eq-eqb (c .odd) 0 none) whole) (λ odd. rw (ne-eqb (c .odd) 0 (λ e. omega arith)) (blended odd))
-    (eq-zero-or-pos (c .odd))
 
 one-run : (n a i : ℕ) → runFrom a i (paid (replicate n 1)) ≡ (a until (i + n)) ∷ []
 unfolding runsFrom
@@ -56,8 +46,9 @@ module _ (round : ℕ → ℕ → ℕ) (half : WithinHalf round) where
         let u = c .lower .units * unit in
         let most = tables c sound (λ p. creditIn round p marks ≤ u)
         (λ p term units short falling. omega (arith, table-most p short falling marks (rw term fits))) in
-        by-tables (λ n. n ≤ u) round c marks (most .0)
-        (λ odd. blended-most round half (c .odd) _ _ u (omega (arith, sound .odd-most)) (most .0) (most .1 odd))
+        ⊎-elim (λ whole. rw whole (most .0))
+        (λ odd. rw (odd .0) (blended-most round half (c .odd) _ _ u (omega (arith, sound .odd-most)) (most .0) (odd .1)))
+        (most .1)
 
   pub table-full : (p : Purchase) → p .term ≤ 20 → Falling p → 0 < p .term → creditIn round p (replicate (12 * p .term) 1) ≡ p .units * unit
   unfolding creditIn creditOver
@@ -82,9 +73,9 @@ module _ (round : ℕ → ℕ → ℕ) (half : WithinHalf round) where
       let marks : List ℕ = replicate (12 * c .lower .term) 1 in
       let full = tables c sound (λ p. creditIn round p marks ≡ u)
       (λ p term units short falling. rw (← term, ← units) (table-full p short falling (omega arith))) in
-      by-tables (λ n. n ≡ u) round c marks (full .0)
-      (λ odd.
-      let upper = full .1 odd in
       let l : c .odd ≤ 12 = omega (arith, sound .odd-most) in
-      le-antisymm (blended-most round half (c .odd) _ _ u l (omega arith) (omega arith))
-      (blended-least round half (c .odd) _ _ u l (omega arith) (omega arith)))
+      ⊎-elim (λ whole. rw whole (full .0))
+      (λ odd. rw (odd .0)
+      (le-antisymm (blended-most round half (c .odd) _ _ u l (omega (arith, full .0)) (omega (arith, odd .1)))
+      (blended-least round half (c .odd) _ _ u l (omega (arith, full .0)) (omega (arith, odd .1)))))
+      (full .1)

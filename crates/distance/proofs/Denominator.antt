@@ -10,21 +10,21 @@ use Rattle.distance.specs.Distance.{Within}
 use Rattle.distance.proofs.Near.{Close}
 
 -- x is n over D, multiplied out
-pub record Is (x : Fraction) (n D : ℕ) : Type 0 where
+pub record IsOver (x : Fraction) (n D : ℕ) : Type 0 where
   pub same : x .num * D ≡ n * x .den
   pub positive : 0 < x .den
 
-pub none-is : (D : ℕ) → Is (0 over 1) 0 D
+pub none-is : (D : ℕ) → IsOver (0 over 1) 0 D
 none-is D = record { same = omega arith; positive = omega arith }
 
-pub plus-is : {x y : Fraction} {m n D : ℕ} → Is x m D → Is y n D → Is (x plus y) (m + n) D
+pub plus-is : {x y : Fraction} {m n D : ℕ} → IsOver x m D → IsOver y n D → IsOver (x plus y) (m + n) D
 plus-is {x} {y} a b =
     record {
       same = omega (arith, ap (λ t. t * y .den) (a .same), ap (λ t. t * x .den) (b .same));
       positive = mul-pos (a .positive) (b .positive);
     }
 
-pub minus-is : {x y : Fraction} {m n D : ℕ} → Is x m D → Is y n D → Is (x minus y) (m - n) D
+pub minus-is : {x y : Fraction} {m n D : ℕ} → IsOver x m D → IsOver y n D → IsOver (x minus y) (m - n) D
 minus-is {x} {y} {m} {n} {D} a b =
     record {
       same =
@@ -38,11 +38,11 @@ minus-is {x} {y} {m} {n} {D} a b =
       positive = mul-pos (a .positive) (b .positive);
     }
 
-pub divided-is : {x : Fraction} {n D : ℕ} (k : ℕ) → 0 < k → Is x n D → Is (x dividedBy k) n (k * D)
+pub divided-is : {x : Fraction} {n D : ℕ} (k : ℕ) → 0 < k → IsOver x n D → IsOver (x dividedBy k) n (k * D)
 divided-is k h a = record { same = omega (arith, ap (λ t. t * k) (a .same)); positive = mul-pos (a .positive) h }
 
 -- what is near over the common denominator is near the fraction itself
-pub within : {x : Fraction} {n D : ℕ} (c h : ℕ) → 0 < D → Is x n D → Close (2 * (D * c)) (2 * n) (h * D) → Within c x h
+pub within : {x : Fraction} {n D : ℕ} (c h : ℕ) → 0 < D → IsOver x n D → Close (2 * (D * c)) (2 * n) (h * D) → Within c x h
 within {x} {n} {D} c h d a near =
     record {
       positive = a .positive;

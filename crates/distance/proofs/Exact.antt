@@ -10,7 +10,7 @@ use lib.ListN.{length}
 use Rattle.credit.specs.Years.{Purchase, ownContribution, unit, yearCredit}
 use Rattle.distance.specs.Exact.{exactYear, exactMonth, exactFrom}
 use Rattle.distance.specs.Distance.{Falling}
-use Rattle.distance.proofs.Denominator.{Is, none-is, plus-is, minus-is, divided-is, product, product-positive, divides-product}
+use Rattle.distance.proofs.Denominator.{IsOver, none-is, plus-is, minus-is, divided-is, product, product-positive, divides-product}
 use Rattle.distance.proofs.Line.{line, line-step}
 use Rattle.distance.proofs.Near.{added}
 use Rattle.distance.proofs.Years.{year-none, year-at}
@@ -42,7 +42,7 @@ module _ (p : Purchase) (falling : Falling p) where
   pub over-exact : (n : ℕ) → 0 < n → n ≤ p .term → exactOver p n * p .rate n ≡ ownContribution p * unit * denominator p
   over-exact n a b = rw (year-at (share p) p n a b) (share-exact (ownContribution p * unit) n a b)
 
-  year-is : (n : ℕ) → n ≤ p .term → Is (exactYear p n) (exactOver p n) (denominator p)
+  year-is : (n : ℕ) → n ≤ p .term → IsOver (exactYear p n) (exactOver p n) (denominator p)
   unfolding exactYear
   year-is zero h = rw (year-none (share p) p) (none-is (denominator p))
   year-is (suc n) h =
@@ -70,7 +70,8 @@ module _ (p : Purchase) (falling : Falling p) where
   pub over-step : (i : ℕ) → i < 12 * p .term → line (exactOver p) i + monthOver p i ≡ line (exactOver p) (suc i)
   over-step i h = omega (arith, line-step (exactOver p) i, over-rises (i / 12) (omega arith))
 
-  pub exact-is : (ps : List Bool) (i : ℕ) → i + length ps ≤ 12 * p .term → Is (exactFrom p i ps) (added (monthOver p) i ps) (12 * denominator p)
+  pub exact-is : (ps : List Bool) (i : ℕ) → i + length ps ≤ 12 * p .term
+      → IsOver (exactFrom p i ps) (added (monthOver p) i ps) (12 * denominator p)
   unfolding exactFrom exactMonth added
   exact-is [] i h = none-is (12 * denominator p)
   exact-is (true ∷ ps) i h =

@@ -1,7 +1,7 @@
 -- The value at a contract month: it lies on the line through the years, never falls, and never passes the amount.
 -- Assumes nothing.
 use mathlib.Core.Path.{_≡_, _∙_}
-use Prim.Native.Nat.{ℕ, suc, _+_, _*_, _/_, _%_, _≤_, _<_}
+use Prim.Native.Nat.{ℕ, suc, _*_, _/_, _%_, _≤_}
 use native.Mathlib.Nat.{mul-le-mul-right}
 use native.Mathlib.Omega.{arith}
 use Rattle.rounding.specs.Rounding.{WithinHalf, Monotone}
@@ -27,7 +27,8 @@ module _ (round : ℕ → ℕ → ℕ) (half : WithinHalf round) (p : Purchase) 
   pub month-most : Falling p → (i : ℕ) → monthValue round (yearCredits round p) i ≤ p .units * unit
   month-most falling i =
       let most = year-most round half p falling in
-      rw (on-line round p short i) (blended-most round half (i % 12) _ _ (p .units * unit) (omega arith) (most (i / 12)) (most (suc (i / 12))))
+      rw (on-line round p short i)
+      (blended-most round half (i % 12) _ _ (p .units * unit) (omega arith) (most (i / 12)) (most (suc (i / 12))))
 
 -- the month value never falls within the term
 pub month-rises : (round : ℕ → ℕ → ℕ) → Monotone round → (p : Purchase) → p .term ≤ 20 → Falling p

@@ -1,4 +1,4 @@
--- What is about runs alone: where each value lies near a rising exact line, what runs earn lies near what their months add up to.
+-- How errors add up: in a blend, and over runs, where each month's value lies near an exact line.
 -- Assumes nothing.
 use mathlib.Core.Bool.{Bool, true, false}
 use mathlib.Core.List.{List, [], _∷_}
@@ -8,12 +8,32 @@ use native.Mathlib.Decide.{decLe}
 use native.Mathlib.Nat.{sub-add-cancel, mul-le-mul-left}
 use native.Mathlib.Omega.{arith}
 use lib.ListN.{length}
+use Rattle.rounding.specs.Nearest.{blendBy}
+use Rattle.rounding.specs.Rounding.{WithinHalf}
 use Rattle.credit.specs.Runs.{runsFrom, runFrom, startsAfter}
 use Rattle.credit.specs.Credit.{earned}
 
 -- x and y are at most d apart
 abbrev pub Close : ℕ → ℕ → ℕ → Type 0
 Close x y d = (x ≤ y + d) × (y ≤ x + d)
+
+-- Two figures over D, each off by at most h halves: their blend is off by one half more, for its own rounding.
+pub blend-near : (round : ℕ → ℕ → ℕ) → WithinHalf round → (m lo hi x y D h : ℕ) → m ≤ 12
+    → Close (2 * D * lo) (2 * x) (h * D) → Close (2 * D * hi) (2 * y) (h * D)
+    → Close (24 * D * blendBy round m lo hi) (2 * ((12 - m) * x + m * y)) (12 * suc h * D)
+blend-near round half m lo hi x y D h l a b =
+    let n = (12 - m) * lo + m * hi in
+    let s : (12 - m) + m ≡ 12 = omega arith in
+    omega (
+      arith,
+      mul-le-mul-left (12 - m) (a .0),
+      mul-le-mul-left (12 - m) (a .1),
+      mul-le-mul-left m (b .0),
+      mul-le-mul-left m (b .1),
+      mul-le-mul-left D (half .above n 12 (omega arith)),
+      mul-le-mul-left D (half .below n 12 (omega arith)),
+      ap (λ t. t * (h * D)) s,
+    )
 
 -- the sum of a month's figure over the paid months from i on
 unfoldable pub added : (ℕ → ℕ) → ℕ → List Bool → ℕ

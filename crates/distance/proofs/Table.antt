@@ -18,30 +18,15 @@ use Rattle.distance.proofs.Denominator.{within}
 use Rattle.distance.proofs.Exact.{denominator, share, exactOver, monthOver, denominator-positive, over-exact, over-step, exact-is}
 use Rattle.distance.proofs.Line.{line}
 use Rattle.distance.proofs.Months.{on-line, month-year}
-use Rattle.distance.proofs.Near.{Close, near-first}
+use Rattle.distance.proofs.Near.{Close, blend-near, near-first}
 use Rattle.distance.proofs.Runs.{length-paid}
 use Rattle.distance.proofs.Years.{year-none, year-at, year-or-none}
 
--- a month between two years, each within a half of its exact height, by weights w and j of twelve; its own rounding is the other half
-between : (w j y z a b v D : ℕ) → w + j ≡ 12 → Close (2 * D * y) (2 * a) D → Close (2 * D * z) (2 * b) D
-    → 2 * 12 * v ≤ 2 * (w * y + j * z) + 12 → 2 * (w * y + j * z) ≤ 2 * 12 * v + 12 → Close (12 * D * v) (w * a + j * b) (12 * D)
-between w j y z a b v D s hy hz above below =
-    omega (
-      arith,
-      mul-le-mul-left w (hy .0),
-      mul-le-mul-left w (hy .1),
-      mul-le-mul-left j (hz .0),
-      mul-le-mul-left j (hz .1),
-      mul-le-mul-left D above,
-      mul-le-mul-left D below,
-      ap (λ t. D * t) s,
-    )
-
 module _ (round : ℕ → ℕ → ℕ) (half : WithinHalf round) (p : Purchase) (short : p .term ≤ 20) (falling : Falling p) where
-  year-near : (n : ℕ) → Close (2 * denominator p * yearCredit round p n) (2 * exactOver p n) (denominator p)
+  year-near : (n : ℕ) → Close (2 * denominator p * yearCredit round p n) (2 * exactOver p n) (1 * denominator p)
   year-near n = ⊎-elim (λ none. rw (none round, none (share p)) (omega arith)) (λ h. in-term (h .0) (h .1)) (year-or-none p n)
     where
-      in-term : 0 < n → n ≤ p .term → Close (2 * denominator p * yearCredit round p n) (2 * exactOver p n) (denominator p)
+      in-term : 0 < n → n ≤ p .term → Close (2 * denominator p * yearCredit round p n) (2 * exactOver p n) (1 * denominator p)
       in-term a b =
           let q = ownContribution p * unit in
           let r = falling .positive n a b in
@@ -53,11 +38,13 @@ module _ (round : ℕ → ℕ → ℕ) (half : WithinHalf round) (p : Purchase) 
 
   month-near : (i : ℕ) → Close (12 * denominator p * monthValue round (yearCredits round p) i) (line (exactOver p) i) (12 * denominator p)
   month-near i =
-      rw (on-line round p short i)
-      (between (12 - i % 12) (i % 12) (yearCredit round p (i / 12)) (yearCredit round p (suc (i / 12))) (exactOver p (i / 12))
-      (exactOver p (suc (i / 12))) (round (line (yearCredit round p) i) 12) (denominator p) (omega arith) (year-near (i / 12))
-      (year-near (suc (i / 12))) (half .above (line (yearCredit round p) i) 12 (omega arith))
-      (half .below (line (yearCredit round p) i) 12 (omega arith)))
+      let n = i / 12 in
+      let year = yearCredit round p in
+      let e = exactOver p in
+      let d = denominator p in
+      let near = blend-near round half (i % 12) (year n) (year (suc n)) (e n) (e (suc n)) d 1 (omega arith)
+      (year-near n) (year-near (suc n)) in
+      rw (on-line round p short i) (omega arith)
 
   pub table-distance : (marks : List ℕ) (rest : List Bool) → paid marks ≡ true ∷ rest → length marks ≤ 12 * p .term
       → Within (creditIn round p marks) (exactCredit p marks) (2 * (2 * runCount marks - 1))

@@ -2,7 +2,7 @@
 -- Assumes nothing.
 use mathlib.Core.Logic.{_⊎_, inl, inr, ⊎-elim}
 use mathlib.Core.Path.{_≡_, refl, sym, ap, _∙_}
-use Prim.Native.Nat.{ℕ, zero, suc, _+_, _*_, _≤_, _<_}
+use Prim.Native.Nat.{ℕ, zero, suc, _*_, _≤_, _<_}
 use native.Mathlib.Decide.{decLe, decLt}
 use native.Mathlib.Nat.{mul-le-mul-left, le-refl, le-trans, zero-add}
 use native.Mathlib.Omega.{arith}
@@ -51,7 +51,8 @@ year-or-none p (suc n) = go (decLe (suc n) (p .term))
 
 rate-falls : (p : Purchase) → Falling p → (a b : ℕ) → 0 < a → a ≤ b → b ≤ p .term → p .rate b ≤ p .rate a
 rate-falls p falling a b h =
-    onward (λ n. p .rate n ≤ p .rate a) a (p .term) (le-refl (p .rate a)) (λ n g l before. le-trans (falling .falls n (omega arith) l) before) b
+    onward (λ n. p .rate n ≤ p .rate a) a (p .term) (le-refl (p .rate a))
+    (λ n g l before. le-trans (falling .falls n (omega arith) l) before) b
 
 -- no year's credit passes the amount
 pub year-most : (round : ℕ → ℕ → ℕ) → WithinHalf round → (p : Purchase) → Falling p → (n : ℕ) → yearCredit round p n ≤ p .units * unit

@@ -2,15 +2,15 @@
 -- Assumes nothing.
 use Prim.Native.Nat.{ℕ, _+_, _*_, _-_}
 
+infix 60 _over_
+infixl 62 _dividedBy_
+infixl 65 _plus_ _minus_
+infixr 70 _times_
+-- a numerator over a denominator
 pub record Fraction : Type 0 where
   pub num : ℕ
   pub den : ℕ
 
-infix 60 _over_
-infixl 65 _plus_
-infixl 65 _minus_
-infixr 70 _times_
-infixl 62 _dividedBy_
 -- the fraction n ÷ d
 abbrev pub _over_ : ℕ → ℕ → Fraction
 n over d = record { num = n; den = d }
