@@ -11,42 +11,40 @@ use Rattle.credit.specs.Credit.{creditIn}
 use Rattle.distance.specs.Fraction.{Fraction}
 use Rattle.distance.specs.Exact.{exactCredit, exactBlend}
 
--- c lies at most h half pence above x and at most h half pence below it, multiplied out; the denominator is above 0
+-- The comparison by multiplying out: x has a denominator above 0, and c is at most h half pence above and below it.
 pub record Within (c : ℕ) (x : Fraction) (h : ℕ) : Type 0 where
   pub positive : 0 < x .den
   pub above : 2 * c * x .den ≤ 2 * x .num + h * x .den
   pub below : 2 * x .num ≤ 2 * c * x .den + h * x .den
 
--- the bound in half pence for k runs: 2k − 1 pence, and a half penny more with odd months
+-- The bound for k runs, in half pence: 2k − 1 pence, and a half penny more with odd months.
 abbrev pub halfPence : ℕ → ℕ → ℕ
 halfPence odd k = 2 * (2 * k - 1) + pick (eqb odd 0) 0 1
 
--- A monthly contract: the odd months of its pension age, the only or lower table's terms, and the upper's, which count for nothing where
--- there are no odd months.
+-- A monthly contract: the odd months of its pension age, the only or lower table, and the upper, which no odd months leave unused.
 pub record Contract : Type 0 where
   pub odd : ℕ
   pub lower : Purchase
   pub upper : Purchase
 
--- With odd months both tables' credits are worked out whole, then combined as contributions are.
+-- The credit in whole pence: the only table's, or with odd months the rounded blend of both tables'.
 abbrev pub creditBy : (ℕ → ℕ → ℕ) → Contract → List ℕ → ℕ
 creditBy round c marks =
     pick (eqb (c .odd) 0) (creditIn round (c .lower) marks)
     (blendBy round (c .odd) (creditIn round (c .lower) marks) (creditIn round (c .upper) marks))
 
--- The exact credit goes the same way.
+-- The exact credit: the same with nothing rounded.
 abbrev pub exactly : Contract → List ℕ → Fraction
 exactly c marks =
     pick (eqb (c .odd) 0) (exactCredit (c .lower) marks)
     (exactBlend (c .odd) (exactCredit (c .lower) marks) (exactCredit (c .upper) marks))
 
--- Along a row of a monthly table, up to the term, each rate is above 0 and it never rises with the term.
+-- The rule for the rows of monthly tables: up to the term every rate is above 0, and none is more than the one before.
 pub record Falling (p : Purchase) : Type 0 where
   pub positive : (n : ℕ) → 0 < n → n ≤ p .term → 0 < p .rate n
   pub falls : (n : ℕ) → 0 < n → n < p .term → p .rate (suc n) ≤ p .rate n
 
--- What the theorems ask of a contract: odd months 0 to 11, a term of at most 20 years, falling rates in each table that counts, and the
--- same term and units in both.
+-- What the theorems ask: odd months below 12, a term that the row of 21 holds, falling rates, the same term and units in both tables.
 pub record Sound (c : Contract) : Type 0 where
   pub odd-most : c .odd < 12
   pub term-most : c .lower .term ≤ 20
