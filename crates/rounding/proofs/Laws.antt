@@ -60,14 +60,19 @@ blended-monotone round mono m a b c d p q =
     mono .keeps ((12 - m) * a + m * b) 12 ((12 - m) * c + m * d) 12 (omega arith) (omega arith)
     (omega (arith, mul-le-mul-left (12 - m) p, mul-le-mul-left m q))
 
+-- the same of the blend to the nearest
+pub blend-most : (m lo hi u : ℕ) → m ≤ 12 → lo ≤ u → hi ≤ u → blend m lo hi ≤ u
+unfolding blend
+blend-most = blended-most nearest nearest-within-half
+
 -- two tables' figures combined are at most what both are at most
 pub combine-most : (m lo hi u : ℕ) → m ≤ 12 → lo ≤ u → hi ≤ u → combine m lo hi ≤ u
-unfolding combine blend
+unfolding combine
 combine-most m lo hi u h p q = go (eqb m 0)
   where
-    go : (b : Bool) → pick b lo (blendBy nearest m lo hi) ≤ u
+    go : (b : Bool) → pick b lo (blend m lo hi) ≤ u
     go true = p
-    go false = blended-most nearest nearest-within-half m lo hi u h p q
+    go false = blend-most m lo hi u h p q
 
 -- at a whole pension age the upper figure does not matter
 pub combine-upper : (m lo a b : ℕ) → ((m ≡ 0 → ⊥) → a ≡ b) → combine m lo a ≡ combine m lo b
