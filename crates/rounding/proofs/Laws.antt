@@ -6,7 +6,7 @@ use Prim.Native.Nat.{ℕ, _+_, _*_, _-_, _≤_, _<_}
 use native.Mathlib.Nat.{mul-le-mul-left, lt-of-mul-lt-mul-left, le-antisymm}
 use native.Mathlib.Omega.{arith}
 use lib.Dec.{eqb}
-use borrow.Author.Tests.{eqb-false}
+use borrow.Author.Tests.{eq-eqb, eqb-false}
 use Rattle.common.specs.Choice.{pick}
 use Rattle.rounding.specs.Nearest.{nearest, blendBy, blend, combine}
 use Rattle.rounding.specs.Rounding.{WithinHalf, Monotone}
@@ -82,3 +82,7 @@ combine-upper m lo a b h = go (eqb m 0) refl
     go : (t : Bool) → eqb m 0 ≡ t → pick t lo (blend m lo a) ≡ pick t lo (blend m lo b)
     go true e = refl
     go false e = ap (blend m lo) (h (eqb-false m 0 e))
+
+pub combine-none : (m lo hi : ℕ) → m ≡ 0 → combine m lo hi ≡ lo
+unfolding combine
+combine-none m lo hi z = rw (eq-eqb m 0 z)
