@@ -1,4 +1,3 @@
-pub mod Cases
 pub mod Tests
 pub mod Table
 pub mod Product

@@ -1,3 +1,4 @@
+pub mod Cases
 pub mod Lists
 pub mod Counts
 pub mod Through

@@ -13,7 +13,7 @@ use lib.Seq.{take-suc, length-take-le}
 use Rattle.marks.specs.declared.Reading.{Reading}
 use Rattle.marks.specs.Reading.{refusedOf, startOf, nextRefusalOf, afterMissed, afterPaid, afterEnded, afterMark}
 use Rattle.marks.specs.Reading.{stepBy, stepOf, oneMore, readOn, readingOf, Within}
-use Rattle.common.proofs.Cases.{either}
+use Rattle.marks.proofs.Cases.{either}
 use Rattle.marks.proofs.Lists.{by-the-last, length-last}
 
 pub read-on-append : (r : Reading) (xs ys : List ℕ) → readOn r (xs ++ ys) ≡ readOn (readOn r xs) ys

@@ -6,7 +6,7 @@ use native.Mathlib.Nat.{mul-le-mul-left, lt-of-mul-lt-mul-left, le-antisymm}
 use native.Mathlib.Omega.{arith}
 use lib.Dec.{eqb}
 use borrow.Author.Tests.{eqb-false}
-use Rattle.common.proofs.Cases.{by-test}
+use Rattle.common.proofs.Tests.{by-test}
 use Rattle.rounding.specs.Nearest.{nearest, blendBy, blend, combineBy, combine}
 use Rattle.rounding.specs.Rounding.{WithinHalf, Monotone}
 use Rattle.rounding.proofs.HalfUp.{nearest-within-half}
