@@ -1,5 +1,5 @@
--- Whole-year credits by year and in the row, for any rounding: none passes the amount, none is less than the year before's, and
--- the value at a month passes no bound of the years. Assumes nothing.
+-- Whole-year credits by year and in the row, for any rounding: they never fall, and neither they nor the value at a month pass the amount.
+-- Assumes nothing.
 use mathlib.Core.List.{List}
 use mathlib.Core.Logic.{_⊎_, inl, inr, ⊎-elim}
 use mathlib.Core.Path.{_≡_, refl, sym, ap, _∙_}
@@ -46,37 +46,38 @@ year-or-none p (suc n) =
     by-test (leb (suc n) (p .term)) (λ h. inr (omega arith, leb-true (suc n) (p .term) h))
     (λ h. inl (λ round. year-past round p (suc n) (leb-false (suc n) (p .term) h)))
 
-module _ (p : Purchase) (falling : Falling p) where
-  -- no rate up to the term is below the term's, so none buys more than the amount
-  pub own-most : (n : ℕ) → 0 < n → n ≤ p .term → ownContribution p * unit ≤ p .units * unit * p .rate n
-  own-most n low within = omega (arith, mul-le-mul-left (p .units) (least (p .term) within (le-refl (p .term))))
-    where
-      least : (m : ℕ) → n ≤ m → m ≤ p .term → p .rate m ≤ p .rate n
-      least =
-          le-ind (λ (m : ℕ). m ≤ p .term → p .rate m ≤ p .rate n) (λ l. le-refl (p .rate n))
-          (λ m h before l. le-trans (falling .falls m (omega arith) l) (before (omega arith)))
+-- no rate up to the term is below the term's, so none buys more than the amount
+pub own-most : (p : Purchase) → Falling p → (n : ℕ) → 0 < n → n ≤ p .term → ownContribution p * unit ≤ p .units * unit * p .rate n
+own-most p falling n low within = omega (arith, mul-le-mul-left (p .units) (least (p .term) within (le-refl (p .term))))
+  where
+    least : (m : ℕ) → n ≤ m → m ≤ p .term → p .rate m ≤ p .rate n
+    least =
+        le-ind (λ (m : ℕ). m ≤ p .term → p .rate m ≤ p .rate n) (λ l. le-refl (p .rate n))
+        (λ m h before l. le-trans (falling .falls m (omega arith) l) (before (omega arith)))
 
-  module _ (round : ℕ → ℕ → ℕ) (half : WithinHalf round) where
-    pub year-most : (n : ℕ) → yearCredit round p n ≤ p .units * unit
-    year-most n =
-        ⊎-elim (λ none. rw (none round) (omega arith))
-        (λ h. rw (year-within round p n (h .0) (h .1))
-        (round-most round half _ _ _ (falling .positive n (h .0) (h .1)) (own-most n (h .0) (h .1))))
-        (year-or-none p n)
+module _ (round : ℕ → ℕ → ℕ) (half : WithinHalf round) where
+  -- no year is worth more than the amount
+  pub year-most : (p : Purchase) → Falling p → (n : ℕ) → yearCredit round p n ≤ p .units * unit
+  year-most p falling n =
+      ⊎-elim (λ none. rw (none round) (omega arith))
+      (λ h. rw (year-within round p n (h .0) (h .1))
+      (round-most round half _ _ _ (falling .positive n (h .0) (h .1)) (own-most p falling n (h .0) (h .1))))
+      (year-or-none p n)
 
-    pub years-most : p .term ≤ 20 → (n : ℕ) → getD (yearCredits round p) n 0 ≤ p .units * unit
-    years-most short n = rw (row-year round p short n) (year-most n)
+  pub years-most : (p : Purchase) → p .term ≤ 20 → Falling p → (n : ℕ) → getD (yearCredits round p) n 0 ≤ p .units * unit
+  years-most p short falling n = rw (row-year round p short n) (year-most p falling n)
 
-  pub year-rises : (round : ℕ → ℕ → ℕ) → Monotone round → (n : ℕ) → n < p .term → yearCredit round p n ≤ yearCredit round p (suc n)
-  year-rises round mono zero h = rw (year-none round p) (omega arith)
-  year-rises round mono (suc n) h =
-      let own = ownContribution p * unit in
-      rw (year-within round p (suc n) (omega arith) (omega arith), year-within round p (suc (suc n)) (omega arith) h)
-      (mono .keeps own (p .rate (suc n)) own (p .rate (suc (suc n))) (falling .positive (suc n) (omega arith) (omega arith))
-      (falling .positive (suc (suc n)) (omega arith) h) (mul-le-mul-left own (falling .falls (suc n) (omega arith) h)))
+  -- the value at a month is not above all the years
+  pub month-most : (years : List ℕ) (u : ℕ) → ((n : ℕ) → getD years n 0 ≤ u) → (month : ℕ) → monthValue round years month ≤ u
+  unfolding monthValue
+  month-most years u most month =
+      blended-most round half (month % 12) _ _ u (omega arith) (most (month / 12)) (most (suc (month / 12)))
 
-pub month-most : (round : ℕ → ℕ → ℕ) → WithinHalf round → (years : List ℕ) (u : ℕ) → ((n : ℕ) → getD years n 0 ≤ u)
-    → (month : ℕ) → monthValue round years month ≤ u
-unfolding monthValue
-month-most round half years u most month =
-    blended-most round half (month % 12) _ _ u (omega arith) (most (month / 12)) (most (suc (month / 12)))
+pub year-rises : (round : ℕ → ℕ → ℕ) → Monotone round → (p : Purchase) → Falling p → (n : ℕ) → n < p .term
+    → yearCredit round p n ≤ yearCredit round p (suc n)
+year-rises round mono p falling zero h = rw (year-none round p) (omega arith)
+year-rises round mono p falling (suc n) h =
+    let own = ownContribution p * unit in
+    rw (year-within round p (suc n) (omega arith) (omega arith), year-within round p (suc (suc n)) (omega arith) h)
+    (mono .keeps own (p .rate (suc n)) own (p .rate (suc (suc n))) (falling .positive (suc n) (omega arith) (omega arith))
+    (falling .positive (suc (suc n)) (omega arith) h) (mul-le-mul-left own (falling .falls (suc n) (omega arith) h)))
