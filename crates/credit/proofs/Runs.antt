@@ -7,7 +7,7 @@ use Prim.Native.Nat.{ℕ, suc, _+_, _-_, _<_}
 use native.Mathlib.Numerals.{add-one}
 use native.Mathlib.Omega.{arith}
 use lib.Dec.{eqb}
-use lib.ListN.{length, take, getD}
+use lib.ListN.{length, length-map, take, getD}
 use lib.Seq.{take-suc}
 use Rattle.common.specs.Choice.{pick}
 use Rattle.money.specs.Money.{pension}
@@ -16,6 +16,9 @@ use Rattle.credit.specs.Years.{monthValue}
 use Rattle.credit.specs.Runs.{paid, runsFrom, runFrom, runsIn}
 use Rattle.credit.specs.Credit.{earned, creditOver}
 use Rattle.credit.specs.Earned.{nothingYet, creditAt, afterMark, afterMarks}
+
+pub length-paid : (marks : List ℕ) → length (paid marks) ≡ length marks
+length-paid marks = length-map marks (λ mark. eqb mark 1)
 
 -- a first mark that is paid, and one that is not
 by-first : {A : Type 0} (p : Bool) (f : A → ℕ) (x y : A) (g : Bool → ℕ) → f x ≡ g true → f y ≡ g false → f (pick p x y) ≡ g p

@@ -1,4 +1,4 @@
--- Document 01: the unbroken paid runs of a list of marks, and their number k.
+-- Document 01, "From rate to contribution and credit": where the paid runs of a list of marks begin and end, and how many there are, k.
 -- Assumes nothing.
 use mathlib.Core.Bool.{Bool, true, false}
 use mathlib.Core.List.{List, [], _∷_, map}
@@ -9,7 +9,7 @@ use lib.Dec.{eqb}
 abbrev pub paid : List ℕ → List Bool
 paid = map (λ mark. eqb mark 1)
 
--- a paid run from month `from` to month `to` of the contract: the marks from index `from` up to but not including `to` are 1
+-- a paid run: the marks from index `from` up to but not including `to` are 1, and those beside them are not
 pub record Run : Type 0 where
   pub from : ℕ
   pub to : ℕ
@@ -18,7 +18,7 @@ infix 60 _until_
 abbrev pub _until_ : ℕ → ℕ → Run
 a until b = record { from = a; to = b }
 
--- the unbroken runs from index i on, outside a run; and those inside a run that began at month a
+-- the runs from index i on, outside a run; and those inside a run that began at month a
 unfoldable mutual
   pub runsFrom : ℕ → List Bool → List Run
   runsFrom i [] = []
@@ -30,17 +30,17 @@ unfoldable mutual
   runFrom a i (true ∷ ps) = runFrom a (suc i) ps
   runFrom a i (false ∷ ps) = (a until i) ∷ runsFrom (suc i) ps
 
--- the unbroken paid runs of the marks
+-- the paid runs of the marks, in order
 unfoldable pub runsIn : List ℕ → List Run
 runsIn marks = runsFrom 0 (paid marks)
 
--- the 1s that stand first or next after a mark other than 1, where the mark before these was paid or not
+-- how many marks are paid where the one before is not; `before` tells of the mark before the list
 unfoldable pub startsAfter : Bool → List Bool → ℕ
 startsAfter before [] = 0
 startsAfter before (false ∷ ps) = startsAfter false ps
 startsAfter true (true ∷ ps) = startsAfter true ps
 startsAfter false (true ∷ ps) = suc (startsAfter true ps)
 
--- k
+-- k: nothing is paid before the first mark
 unfoldable pub runCount : List ℕ → ℕ
 runCount marks = startsAfter false (paid marks)

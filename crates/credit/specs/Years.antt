@@ -1,5 +1,5 @@
--- Document 01, "From rate to contribution and credit": the whole-year credits of one table, and the value at a contract month.
--- The rounding is an argument: Settle takes `nearest`.
+-- Document 01, "From rate to contribution and credit", second paragraph: what one table's contract is worth after whole years, and at
+-- any month between them. The rounding is an argument: Settle takes `nearest`.
 -- Assumes nothing.
 use mathlib.Core.List.{List}
 use Prim.Native.Nat.{ℕ, suc, _*_, _/_, _%_}
@@ -23,15 +23,15 @@ ownContribution p = p .units * p .rate (p .term)
 abbrev pub unit : ℕ
 unit = 25000
 
--- Year 0 is 0; year n, up to the term, is the table's own contribution ÷ its rate at n × £250, rounded; past the term it is 0.
+-- What the contribution buys in n years, by the rate for n, rounded; nothing at the start, and nothing beyond the term.
 unfoldable pub yearCredit : (ℕ → ℕ → ℕ) → Purchase → ℕ → ℕ
 yearCredit round p n =
     pick (eqb n 0) 0 (pick (leb n (p .term)) (round (ownContribution p * unit) (p .rate n)) 0)
 
--- the twenty-one whole-year credits, for years 0 to 20
+-- all of them as one row: the start, and a place for each year that the longest term has
 unfoldable pub yearCredits : (ℕ → ℕ → ℕ) → Purchase → List ℕ
 yearCredits round p = tabulate (yearCredit round p) 0 21
 
--- The value at contract month 12n + j, of a row of whole-year credits: ((12 − j) × year n + j × year n + 1) ÷ 12, rounded.
+-- What such a row is worth at a month: the year that was last completed and the one under way, blended by the months passed since.
 unfoldable pub monthValue : (ℕ → ℕ → ℕ) → List ℕ → ℕ → ℕ
 monthValue round years month = blendBy round (month % 12) (getD years (month / 12) 0) (getD years (suc (month / 12)) 0)

@@ -1,22 +1,22 @@
 -- The amount: no credit passes it, and a term that is paid in full earns it.
 -- Assumes nothing.
 use mathlib.Core.List.{List, [], _∷_}
-use mathlib.Core.Logic.{⊎-elim}
 use mathlib.Core.Path.{_≡_, ap, _∙_}
 use Prim.Native.Nat.{ℕ, zero, suc, _+_, _*_, _-_, _≤_, _<_}
 use native.Mathlib.Nat.{le-refl, le-antisymm}
 use native.Mathlib.Omega.{arith}
 use lib.ListN.{length, replicate}
 use Rattle.rounding.specs.Rounding.{WithinHalf, Monotone}
-use Rattle.rounding.proofs.Laws.{round-whole, blended-most, blended-least}
+use Rattle.rounding.proofs.Laws.{round-whole, combined-most, combined-least}
 use Rattle.credit.specs.Years.{Purchase, ownContribution, unit, yearCredits, monthValue}
+use Rattle.credit.specs.Priced.{Falling}
 use Rattle.credit.specs.Runs.{_until_, paid, runsFrom, runFrom, runsIn}
 use Rattle.credit.specs.Credit.{earned, creditOver, creditIn}
-use Rattle.distance.specs.Distance.{Contract, creditBy, Falling, Sound}
-use Rattle.distance.proofs.Months.{month-year, month-most, month-rises}
+use Rattle.credit.proofs.Years.{year-none, year-within, years-most, month-most}
+use Rattle.distance.specs.Distance.{Contract, creditBy, Sound}
+use Rattle.distance.proofs.Months.{month-year, month-rises}
 use Rattle.distance.proofs.Runs.{earned-most}
 use Rattle.distance.proofs.Tables.{tables}
-use Rattle.distance.proofs.Years.{year-none, year-at}
 
 one-run : (n a i : ℕ) → runFrom a i (paid (replicate n 1)) ≡ (a until (i + n)) ∷ []
 unfolding runsFrom
@@ -37,7 +37,7 @@ module _ (round : ℕ → ℕ → ℕ) (half : WithinHalf round) where
         omega (
           arith,
           earned-most (monthValue round (yearCredits round p)) (12 * p .term) (month-rises round mono p short falling) marks fits,
-          month-most round half p short falling (12 * p .term),
+          month-most round half (yearCredits round p) (p .units * unit) (years-most round half p short falling) (12 * p .term),
         )
 
     pub credit-most : (c : Contract) → Sound c → (marks : List ℕ) → length marks ≤ 12 * c .lower .term
@@ -46,9 +46,7 @@ module _ (round : ℕ → ℕ → ℕ) (half : WithinHalf round) where
         let u = c .lower .units * unit in
         let most = tables c sound (λ p. creditIn round p marks ≤ u)
         (λ p term units short falling. omega (arith, table-most p short falling marks (rw term fits))) in
-        ⊎-elim (λ whole. rw whole (most .0))
-        (λ odd. rw (odd .0) (blended-most round half (c .odd) _ _ u (omega (arith, sound .odd-most)) (most .0) (odd .1)))
-        (most .1)
+        combined-most round half (c .odd) _ _ u (omega (arith, sound .odd-most)) (most .0) (most .1)
 
   pub table-full : (p : Purchase) → p .term ≤ 20 → Falling p → 0 < p .term → creditIn round p (replicate (12 * p .term) 1) ≡ p .units * unit
   unfolding creditIn creditOver
@@ -61,7 +59,7 @@ module _ (round : ℕ → ℕ → ℕ) (half : WithinHalf round) where
         month-year round half p short 0,
         month-year round half p short (p .term),
         year-none round p,
-        year-at round p (p .term) h (le-refl (p .term)),
+        year-within round p (p .term) h (le-refl (p .term)),
         ap (λ (n : ℕ). round n r) same,
         round-whole round half (p .units * unit) r (falling .positive (p .term) h (le-refl (p .term))),
       )
@@ -74,8 +72,5 @@ module _ (round : ℕ → ℕ → ℕ) (half : WithinHalf round) where
       let full = tables c sound (λ p. creditIn round p marks ≡ u)
       (λ p term units short falling. rw (← term, ← units) (table-full p short falling (omega arith))) in
       let l : c .odd ≤ 12 = omega (arith, sound .odd-most) in
-      ⊎-elim (λ whole. rw whole (full .0))
-      (λ odd. rw (odd .0)
-      (le-antisymm (blended-most round half (c .odd) _ _ u l (omega (arith, full .0)) (omega (arith, odd .1)))
-      (blended-least round half (c .odd) _ _ u l (omega (arith, full .0)) (omega (arith, odd .1)))))
-      (full .1)
+      le-antisymm (combined-most round half (c .odd) _ _ u l (omega (arith, full .0)) (λ odd. omega (arith, full .1 odd)))
+      (combined-least round half (c .odd) _ _ u l (omega (arith, full .0)) (λ odd. omega (arith, full .1 odd)))

@@ -2,12 +2,14 @@
 -- Assumes nothing.
 use mathlib.Core.Bool.{Bool, true}
 use mathlib.Core.List.{List, _∷_}
-use mathlib.Core.Logic.{⊎-elim}
 use mathlib.Core.Path.{_≡_}
 use Prim.Native.Nat.{ℕ, suc, _*_, _-_, _≤_}
 use native.Mathlib.Nat.{mul-le-mul-right, mul-pos}
 use native.Mathlib.Omega.{arith}
+use borrow.Author.Tests.{eqb-false}
+use lib.Dec.{eqb}
 use lib.ListN.{length}
+use Rattle.common.proofs.Tests.{by-test}
 use Rattle.rounding.specs.Nearest.{blendBy}
 use Rattle.rounding.specs.Rounding.{WithinHalf}
 use Rattle.credit.specs.Runs.{paid, runCount}
@@ -40,7 +42,7 @@ distance round half c sound marks fits rest begins =
     let h = 2 * (2 * runCount marks - 1) in
     let near = tables c sound (λ p. Within (creditIn round p marks) (exactCredit p marks) h)
     (λ p term units short falling. table-distance round half p short falling marks rest begins (rw term fits)) in
-    ⊎-elim (λ whole. rw whole (widen _ (omega arith) (near .0)))
-    (λ odd. rw (odd .0)
-    (widen _ (omega arith) (blend-within round half (c .odd) _ _ h _ _ (omega (arith, sound .odd-most)) (near .0) (odd .1))))
-    (near .1)
+    by-test (eqb (c .odd) 0) (λ whole. rw whole (widen _ (omega arith) (near .0)))
+    (λ odd. rw odd
+    (widen _ (omega arith) (blend-within round half (c .odd) _ _ h _ _ (omega (arith, sound .odd-most)) (near .0)
+    (near .1 (omega (arith, eqb-false (c .odd) 0 odd))))))

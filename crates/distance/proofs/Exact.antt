@@ -8,12 +8,12 @@ use native.Mathlib.Nat.{mul-le-mul-left, le-of-mul-le-mul-right, div-mul-cancel}
 use native.Mathlib.Omega.{arith}
 use lib.ListN.{length}
 use Rattle.credit.specs.Years.{Purchase, ownContribution, unit, yearCredit}
+use Rattle.credit.specs.Priced.{Falling}
+use Rattle.credit.proofs.Years.{year-none, year-within}
 use Rattle.distance.specs.Exact.{exactYear, exactMonth, exactFrom}
-use Rattle.distance.specs.Distance.{Falling}
 use Rattle.distance.proofs.Denominator.{IsOver, none-is, plus-is, minus-is, divided-is, product, product-positive, divides-product}
 use Rattle.distance.proofs.Line.{line, line-step}
 use Rattle.distance.proofs.Near.{added}
-use Rattle.distance.proofs.Years.{year-none, year-at}
 
 -- one denominator for all years of a table
 pub denominator : Purchase → ℕ
@@ -40,7 +40,7 @@ module _ (p : Purchase) (falling : Falling p) where
   share-exact m n a b = omega (arith, ap (λ t. m * t) (div-mul-cancel (p .rate n) (divides-product (p .rate) (p .term) n a b)))
 
   pub over-exact : (n : ℕ) → 0 < n → n ≤ p .term → exactOver p n * p .rate n ≡ ownContribution p * unit * denominator p
-  over-exact n a b = rw (year-at (share p) p n a b) (share-exact (ownContribution p * unit) n a b)
+  over-exact n a b = rw (year-within (share p) p n a b) (share-exact (ownContribution p * unit) n a b)
 
   year-is : (n : ℕ) → n ≤ p .term → IsOver (exactYear p n) (exactOver p n) (denominator p)
   unfolding exactYear

@@ -1,6 +1,4 @@
-pub mod Steps
 pub mod Line
-pub mod Years
 pub mod Months
 pub mod Runs
 pub mod Near

@@ -2,9 +2,9 @@
 -- Assumes nothing.
 use mathlib.Core.Path.{_≡_}
 use Prim.Native.Nat.{ℕ, suc, _+_, _*_, _-_, _/_, _%_, _≤_, _<_}
-use native.Mathlib.Decide.{decLt}
+use native.Mathlib.Decide.{decLt, le-ind}
+use native.Mathlib.Nat.{le-refl}
 use native.Mathlib.Omega.{arith}
-use Rattle.distance.proofs.Steps.{rises}
 
 -- twelve times the height at month i of the line through f 0 at month 0, f 1 at month 12, ..
 abbrev pub line : (ℕ → ℕ) → ℕ → ℕ
@@ -26,4 +26,6 @@ line-step f i = go (decLt (i % 12) 11)
         rw (q, r, s) (omega arith)
 
 pub line-rises : (f : ℕ → ℕ) (T : ℕ) → ((n : ℕ) → n < T → f n ≤ f (suc n)) → (a b : ℕ) → a ≤ b → b ≤ 12 * T → line f a ≤ line f b
-line-rises f T step = rises (line f) (12 * T) (λ i h. omega (arith, line-step f i, step (i / 12) (omega arith)))
+line-rises f T step a =
+    le-ind (λ (b : ℕ). b ≤ 12 * T → line f a ≤ line f b) (λ l. le-refl (line f a))
+    (λ i h before l. omega (arith, before (omega arith), line-step f i, step (i / 12) (omega arith)))

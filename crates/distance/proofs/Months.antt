@@ -1,15 +1,15 @@
--- The value at a contract month: it lies on the line through the years, never falls, and never passes the amount.
+-- The value at a contract month: it lies on the line through the years, and never falls.
 -- Assumes nothing.
 use mathlib.Core.Path.{_≡_, _∙_}
 use Prim.Native.Nat.{ℕ, suc, _*_, _/_, _%_, _≤_}
 use native.Mathlib.Nat.{mul-le-mul-right}
 use native.Mathlib.Omega.{arith}
 use Rattle.rounding.specs.Rounding.{WithinHalf, Monotone}
-use Rattle.rounding.proofs.Laws.{blended-most, blended-none}
-use Rattle.credit.specs.Years.{Purchase, unit, yearCredit, yearCredits, monthValue}
-use Rattle.distance.specs.Distance.{Falling}
+use Rattle.rounding.proofs.Laws.{blended-none}
+use Rattle.credit.specs.Years.{Purchase, yearCredit, yearCredits, monthValue}
+use Rattle.credit.specs.Priced.{Falling}
+use Rattle.credit.proofs.Years.{row-year, year-rises}
 use Rattle.distance.proofs.Line.{line, line-rises}
-use Rattle.distance.proofs.Years.{row-year, year-most, year-rises}
 
 module _ (round : ℕ → ℕ → ℕ) (p : Purchase) (short : p .term ≤ 20) where
   pub on-line : (i : ℕ) → monthValue round (yearCredits round p) i ≡ round (line (yearCredit round p) i) 12
@@ -23,12 +23,6 @@ module _ (round : ℕ → ℕ → ℕ) (half : WithinHalf round) (p : Purchase) 
       let q : 12 * n / 12 ≡ n = omega arith in
       let r : 12 * n % 12 ≡ 0 = omega arith in
       on-line round p short (12 * n) ∙ rw (q, r) (blended-none round half (yearCredit round p n) (yearCredit round p (suc n)))
-
-  pub month-most : Falling p → (i : ℕ) → monthValue round (yearCredits round p) i ≤ p .units * unit
-  month-most falling i =
-      let most = year-most round half p falling in
-      rw (on-line round p short i)
-      (blended-most round half (i % 12) _ _ (p .units * unit) (omega arith) (most (i / 12)) (most (suc (i / 12))))
 
 -- the month value never falls within the term
 pub month-rises : (round : ℕ → ℕ → ℕ) → Monotone round → (p : Purchase) → p .term ≤ 20 → Falling p

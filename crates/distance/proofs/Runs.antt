@@ -6,13 +6,13 @@ use mathlib.Core.Logic.{⊎-elim}
 use mathlib.Core.Path.{_≡_, refl, ap}
 use Prim.Native.Nat.{ℕ, suc, _+_, _*_, _≤_, _<_}
 use native.Mathlib.Omega.{arith}
-use lib.Dec.{eqb}
-use lib.ListN.{length, length-map}
+use lib.ListN.{length}
 use Rattle.rounding.specs.Rounding.{Monotone}
 use Rattle.credit.specs.Years.{Purchase, yearCredits, monthValue}
+use Rattle.credit.specs.Priced.{Falling}
 use Rattle.credit.specs.Runs.{Run, paid, runsFrom, runFrom, runsIn, startsAfter, runCount}
 use Rattle.credit.specs.Credit.{earned}
-use Rattle.distance.specs.Distance.{Falling}
+use Rattle.credit.proofs.Runs.{length-paid}
 use Rattle.distance.proofs.Months.{month-rises}
 
 mutual
@@ -31,9 +31,6 @@ mutual
 pub runs-count : (marks : List ℕ) → runCount marks ≡ length (runsIn marks)
 unfolding runCount runsIn
 runs-count marks = count-outside (paid marks) 0
-
-pub length-paid : (marks : List ℕ) → length (paid marks) ≡ length marks
-length-paid marks = length-map marks (λ mark. eqb mark 1)
 
 -- a run starts before it ends, and ends within N months
 abbrev pub Lies : ℕ → Run → Type 0

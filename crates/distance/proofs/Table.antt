@@ -10,17 +10,18 @@ use native.Mathlib.Omega.{arith}
 use lib.ListN.{length}
 use Rattle.rounding.specs.Rounding.{WithinHalf}
 use Rattle.credit.specs.Years.{Purchase, ownContribution, unit, yearCredit, yearCredits, monthValue}
+use Rattle.credit.specs.Priced.{Falling}
 use Rattle.credit.specs.Runs.{paid, runsIn, startsAfter, runCount}
 use Rattle.credit.specs.Credit.{creditOver, creditIn}
+use Rattle.credit.proofs.Years.{year-none, year-within, year-or-none}
+use Rattle.credit.proofs.Runs.{length-paid}
 use Rattle.distance.specs.Exact.{exactCredit}
-use Rattle.distance.specs.Distance.{Within, Falling}
+use Rattle.distance.specs.Distance.{Within}
 use Rattle.distance.proofs.Denominator.{within}
 use Rattle.distance.proofs.Exact.{denominator, share, exactOver, monthOver, denominator-positive, over-exact, over-step, exact-is}
 use Rattle.distance.proofs.Line.{line}
 use Rattle.distance.proofs.Months.{on-line, month-year}
 use Rattle.distance.proofs.Near.{Close, blend-near, near-first}
-use Rattle.distance.proofs.Runs.{length-paid}
-use Rattle.distance.proofs.Years.{year-none, year-at, year-or-none}
 
 module _ (round : ℕ → ℕ → ℕ) (half : WithinHalf round) (p : Purchase) (short : p .term ≤ 20) (falling : Falling p) where
   year-near : (n : ℕ) → Close (2 * denominator p * yearCredit round p n) (2 * exactOver p n) (1 * denominator p)
@@ -31,7 +32,7 @@ module _ (round : ℕ → ℕ → ℕ) (half : WithinHalf round) (p : Purchase) 
           let q = ownContribution p * unit in
           let r = falling .positive n a b in
           let e = over-exact p falling n a b in
-          rw (year-at round p n a b) (
+          rw (year-within round p n a b) (
             le-of-mul-le-mul-right (omega (arith, mul-le-mul-left (denominator p) (half .above q (p .rate n) r))) r,
             le-of-mul-le-mul-right (omega (arith, mul-le-mul-left (denominator p) (half .below q (p .rate n) r))) r,
           )

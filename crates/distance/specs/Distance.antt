@@ -2,11 +2,12 @@
 -- Assumes nothing.
 use mathlib.Core.List.{List}
 use mathlib.Core.Path.{_≡_}
-use Prim.Native.Nat.{ℕ, suc, _+_, _*_, _-_, _≤_, _<_}
+use Prim.Native.Nat.{ℕ, _+_, _*_, _-_, _≤_, _<_}
 use lib.Dec.{eqb}
 use Rattle.common.specs.Choice.{pick}
-use Rattle.rounding.specs.Nearest.{blendBy}
+use Rattle.rounding.specs.Nearest.{combineBy}
 use Rattle.credit.specs.Years.{Purchase}
+use Rattle.credit.specs.Priced.{Falling}
 use Rattle.credit.specs.Credit.{creditIn}
 use Rattle.distance.specs.Fraction.{Fraction}
 use Rattle.distance.specs.Exact.{exactCredit, exactBlend}
@@ -29,20 +30,13 @@ pub record Contract : Type 0 where
 
 -- The credit in whole pence: the only table's, or with odd months the rounded blend of both tables'.
 abbrev pub creditBy : (ℕ → ℕ → ℕ) → Contract → List ℕ → ℕ
-creditBy round c marks =
-    pick (eqb (c .odd) 0) (creditIn round (c .lower) marks)
-    (blendBy round (c .odd) (creditIn round (c .lower) marks) (creditIn round (c .upper) marks))
+creditBy round c marks = combineBy round (c .odd) (creditIn round (c .lower) marks) (creditIn round (c .upper) marks)
 
 -- The exact credit: the same with nothing rounded.
 abbrev pub exactly : Contract → List ℕ → Fraction
 exactly c marks =
     pick (eqb (c .odd) 0) (exactCredit (c .lower) marks)
     (exactBlend (c .odd) (exactCredit (c .lower) marks) (exactCredit (c .upper) marks))
-
--- The rule for the rows of monthly tables: up to the term every rate is above 0, and none is more than the one before.
-pub record Falling (p : Purchase) : Type 0 where
-  pub positive : (n : ℕ) → 0 < n → n ≤ p .term → 0 < p .rate n
-  pub falls : (n : ℕ) → 0 < n → n < p .term → p .rate (suc n) ≤ p .rate n
 
 -- What the theorems ask: odd months below 12, a term that the row of 21 holds, falling rates, the same term and units in both tables.
 pub record Sound (c : Contract) : Type 0 where

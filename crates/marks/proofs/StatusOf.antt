@@ -13,7 +13,7 @@ use Rattle.marks.specs.Counts.{lastOr, allPaid, paidThrough, finalGap}
 use Rattle.marks.specs.Lawful.{LawfulFor}
 use Rattle.marks.specs.Status.{stoppedOf, statusOf, statusFrom}
 use Rattle.marks.specs.Reading.{marksOf}
-use Rattle.marks.proofs.Cases.{by-test}
+use Rattle.common.proofs.Tests.{by-test}
 use Rattle.marks.proofs.Counts.{all-paid}
 use Rattle.marks.proofs.Term.{marks-counts}
 

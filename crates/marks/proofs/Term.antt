@@ -9,7 +9,7 @@ use lib.Dec.{ltb}
 use lib.ListN.{length, take, getD, length-take}
 use Rattle.marks.specs.Lawful.{LawfulFor, FirstBad}
 use Rattle.marks.specs.Reading.{refusedOf, oneMore, stepBy, readingOf, countsOf, marksOf, Within}
-use Rattle.marks.proofs.Cases.{by-test}
+use Rattle.common.proofs.Tests.{by-test}
 use Rattle.marks.proofs.Lists.{length-last}
 use Rattle.marks.proofs.Lawful.{lawful-take}
 use Rattle.marks.proofs.Steps.{step-last, step-take, reading-within, refused-within}

@@ -1,8 +1,7 @@
 -- `credit::year_credits` meets its contract. The loop's invariant: below n the row has the years' credits, and from n on it has 0.
 -- Assumes nothing.
-use mathlib.Core.Bool.{Bool, true, false}
 use mathlib.Core.List.{List}
-use mathlib.Core.Path.{_≡_, refl, sym, ap, _∙_}
+use mathlib.Core.Path.{_≡_, sym, ap, _∙_}
 use Prim.Native.Nat.{ℕ, _+_, _*_, _-_, _≤_, _<_, _^_}
 use native.Mathlib.Nat.{mul-le-mul-right}
 use native.Mathlib.Omega.{arith}
@@ -11,6 +10,7 @@ use borrow.Author.Tests.{ltb-true, ltb-false}
 use lib.Dec.{ltb}
 use lib.ListN.{length, getD, length-set, getD-replicate}
 use lib.Seq.{getD-set-other}
+use Rattle.common.proofs.Tests.{by-test}
 use Rattle.common.proofs.Table.{is-tabulate, one-more}
 use Rattle.rounding.specs.Nearest.{nearest}
 use Rattle.rounding.proofs.HalfUp.{nearest-within-half}
@@ -19,7 +19,7 @@ use Rattle.money.specs.Money.{contribution}
 use Rattle.rates.specs.Rates.{rateIn}
 use Rattle.credit.specs.Years.{Purchase, unit, yearCredit, yearCredits}
 use Rattle.credit.specs.Priced.{purchase, Priced}
-use Rattle.credit.proofs.Years.{year-none, year-within, year-past, rate-positive, own-most, years-most}
+use Rattle.credit.proofs.Years.{year-none, year-within, year-past, own-most, years-most}
 use Rattle.credit.proofs.year_credits.Statement.{statement}
 use Rattle.credit.proofs.year_credits.Tie as tie
 
@@ -36,10 +36,10 @@ record Turn (rates : List ℕ) (units term n : ℕ) (own : ContributionPence) (r
 module _ (rates : List ℕ) (units term n : ℕ) (own : ContributionPence) (rate : ℕ) (t : Turn rates units term n own rate) where
   year-fits : Priced (purchase rates units term) → (0 < rate) × (own .0 * unit ≤ (2 ^ 32 - 1) * rate)
   year-fits priced = rw (t .paid, t .rated) (
-    rate-positive (purchase rates units term) priced n (t .low) (t .within),
+    priced .falling .positive n (t .low) (t .within),
     omega (
       arith,
-      own-most (purchase rates units term) priced n (t .low) (t .within),
+      own-most (purchase rates units term) (priced .falling) n (t .low) (t .within),
       mul-le-mul-right {m = units * unit} {n = 2 ^ 32 - 1} (rateIn rates n) (omega (arith, priced .amount-fits)),
     ),
   )
@@ -51,13 +51,10 @@ module _ (rates : List ℕ) (units term n : ℕ) (own : ContributionPence) (rate
 filled : (p : Purchase) (years : List ℕ) (n : ℕ) → p .term < n → length years ≡ 21 → ((k : ℕ) → k < n → getD years k 0 ≡ yearCredit nearest p k)
     → ((k : ℕ) → n ≤ k → k < 21 → getD years k 0 ≡ 0) → years ≡ yearCredits nearest p
 unfolding yearCredits
-filled p years n past len below above = is-tabulate years (yearCredit nearest p) 0 21 len (λ k h. by k h (ltb k n) refl)
-  where
-    by : (k : ℕ) → k < 21 → (b : Bool) → ltb k n ≡ b → getD years k 0 ≡ yearCredit nearest p (0 + k)
-    by k l true h = below k (ltb-true k n h) ∙ ap (yearCredit nearest p) (omega arith)
-    by k l false h =
-        let h′ = ltb-false k n h in
-        above k h′ l ∙ sym (year-past nearest p (0 + k) (omega arith))
+filled p years n past len below above =
+    is-tabulate years (yearCredit nearest p) 0 21 len λ k l.
+    by-test (ltb k n) (λ h. below k (ltb-true k n h) ∙ ap (yearCredit nearest p) (omega arith))
+    (λ h. above k (ltb-false k n h) l ∙ sym (year-past nearest p (0 + k) (omega (arith, ltb-false k n h))))
 
 abbrev Inv-loop : tie.InvT-loop
 Inv-loop rates units term own years₀ n₀ years n =
@@ -132,7 +129,8 @@ returns c =
     let a = c .before .before .before .before .args in
     let p = purchase (a .rates) (a .units) (a .term) in
     let is = filled p (w .years) (w .n) (omega arith) (w .inv .2) (w .inv .3) (w .inv .4) in
-    record { is = is; most = λ n. rw is (years-most nearest nearest-within-half p (c .before .before .before .before .pre) n) }
+    let priced = c .before .before .before .before .pre in
+    record { is = is; most = λ n. rw is (years-most nearest nearest-within-half p (priced .term-most) (priced .falling) n) }
 
 pub year-credits-spec : {M : Type 1} → statement M
 year-credits-spec =
