@@ -6,14 +6,14 @@ use Prim.Native.Nat.{ℕ, _*_, _≤_, _<_}
 use native.Mathlib.Decide.{ℕ-discrete}
 use native.Mathlib.Omega.{arith}
 use borrow.Author.Tests.{eq-eqb, ne-eqb}
-use lib.ListN.{length}
+use lib.ListN.{length, take}
 use Rattle.election.specs.declared.Terms.{Terms}
 use Rattle.election.specs.Rules.{refusalOf}
 use Rattle.election.specs.Told.{Accepted}
 use Rattle.election.proofs.Laws.{accepted-facts}
 use Rattle.marks.specs.Lawful.{LawfulFor}
 use Rattle.marks.specs.Reading.{marksOf}
-use Rattle.marks.proofs.Term.{marks-lawful}
+use Rattle.marks.proofs.Term.{marks-counts, marks-lawful, lawful-for-take}
 use Rattle.settlement.specs.Settle.{settleRefusal, settlePlace, refusedNumbers, settledNumbers, settleOf}
 use Rattle.settlement.specs.Examine.{refusedExamined, acceptedExamined, examinedOf}
 
@@ -52,6 +52,12 @@ module _ (t : Terms) (ms : List ℕ) where
   -- no more than twenty years of marks
   pub few : settleRefusal t ms ≡ 0 → length ms ≤ 240
   few z = omega (arith, lawful z .few, accepted z .term-high)
+
+  -- the first of marks that are not refused are not refused
+  pub refusal-take : settleRefusal t ms ≡ 0 → (i : ℕ) → settleRefusal t (take i ms) ≡ 0
+  unfolding settleRefusal
+  refusal-take z i =
+      rw (eq-eqb _ _ (terms-pass z), marks-counts (t .term) (take i ms) (lawful-for-take (t .term) ms i (lawful z)))
 
   -- the two outcomes
   pub settle-refused : (settleRefusal t ms ≡ 0 → ⊥) → settleOf t ms ≡ refusedNumbers (settleRefusal t ms) (settlePlace t ms)

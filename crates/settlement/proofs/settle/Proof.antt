@@ -9,7 +9,6 @@ use lib.ListN.{length}
 use borrow.Author.Needs.{needs}
 use Rattle.common.specs.Choice.{pick}
 use Rattle.election.proofs.Laws.{contribution-most}
-use Rattle.election.proofs.Rates.{monthly-rates, monthly-upper-rates}
 use Rattle.election.specs.declared.Terms.{Terms}
 use Rattle.marks.proofs.Counts.{months-most}
 use Rattle.marks.proofs.StatusOf.{not-lump}
@@ -17,11 +16,11 @@ use Rattle.money.specs.Money.{pension, contribution}
 use Rattle.money.specs.declared.ContributionPence.{ContributionPence}
 use Rattle.money.specs.declared.PensionPence.{PensionPence}
 use Rattle.settlement.proofs.Demand.{demand-3}
-use Rattle.settlement.proofs.Laws.{accepted, few, settle-refused, settle-settled, examined-refused, examined-accepted, examined-refusal}
+use Rattle.settlement.proofs.Laws.{accepted, few, settle-refused, settle-settled, examined-refused, examined-accepted}
+use Rattle.settlement.proofs.Examination.{examined-told, examined-none, examined-status, examined-monthly}
 use Rattle.settlement.specs.Demand.{Demand3}
 use Rattle.settlement.specs.Examine.{examinedOf}
 use Rattle.settlement.specs.Settle.{SettleNumbers, settleRefusal, creditAtStatus, refundAtStatus, refusedNumbers, settleOf}
-use Rattle.settlement.specs.Told.{Monthly}
 use Rattle.settlement.specs.declared.Examined.{Examined}
 use Rattle.settlement.proofs.settle.Statement.{statement}
 use Rattle.settlement.proofs.settle.Tie as tie
@@ -31,29 +30,10 @@ near : (t : Terms) (ms : List ℕ) {n : SettleNumbers} → n ≡ settleOf t ms �
 near t ms is = (is, subst (Demand3 t ms) (sym is) (demand-3 t ms))
 
 module _ (t : Terms) (ms : List ℕ) {e : Examined} (is : e ≡ examinedOf t ms) where
-  refusal-is : e .refusal ≡ settleRefusal t ms
-  refusal-is = ap (λ (x : Examined). x .refusal) is ∙ examined-refusal t ms
-
-  none-refused : e .refusal ≡ 0 → settleRefusal t ms ≡ 0
-  none-refused z = sym refusal-is ∙ z
-
   refuses : (e .refusal ≡ 0 → ⊥) → refusedNumbers (e .refusal) (e .place) ≡ settleOf t ms
   refuses some =
-      let refused : settleRefusal t ms ≡ 0 → ⊥ = λ z. some (refusal-is ∙ z) in
+      let refused : settleRefusal t ms ≡ 0 → ⊥ = λ z. some (examined-told t ms is ∙ z) in
       rw (is, examined-refused t ms refused, settle-refused t ms refused)
-
-  -- a contract that is no lump sum has monthly terms with their rows
-  monthly : settleRefusal t ms ≡ 0 → (e .status ≡ 6 → ⊥) → Monthly t (e .lower) (e .upper)
-  monthly none =
-      rw (is, examined-accepted t ms none)
-      (λ other.
-      let years = not-lump (t .term) ms other in
-      record {
-        accepted = accepted t ms none;
-        some-years = years;
-        lower-is = monthly-rates t (t .years) years;
-        upper-is = monthly-upper-rates t (t .years + 1) years;
-      })
 
   small : settleRefusal t ms ≡ 0 → (e .contribution .0 < 2 ^ 32) × (e .paid ≤ 240)
   small none =
@@ -77,18 +57,18 @@ returns c = near _ _ (refuses _ _ (c .before .before .examine .ensures) (c .if1 
 credit-at-requires : tie.Need-credit-at-requires
 credit-at-requires c κs =
     let e = c .before .before .before .before .before .examine .ensures in
-    let none = none-refused _ _ e (c .before .before .before .if1 .left) in
-    (monthly _ _ e none, few _ _ none)
+    let none = examined-none _ _ e (c .before .before .before .if1 .left) in
+    (λ other. examined-monthly _ _ e none (not-lump _ _ (rw (examined-status _ _ e none) at other)), few _ _ none)
 
 refund-at-requires : tie.Need-refund-at-requires
 refund-at-requires c κs =
     let e = c .before .before .before .before .before .before .examine .ensures in
-    small _ _ e (none-refused _ _ e (c .before .before .before .before .if1 .left))
+    small _ _ e (examined-none _ _ e (c .before .before .before .before .if1 .left))
 
 returns-2 : tie.Need-returns-2
 returns-2 c =
     let e = c .before .before .before .before .before .before .before .examine .ensures in
-    near _ _ (settles _ _ e (none-refused _ _ e (c .before .before .before .before .before .if1 .left)) (c .before .credit-at .ensures) (c .refund-at .ensures))
+    near _ _ (settles _ _ e (examined-none _ _ e (c .before .before .before .before .before .if1 .left)) (c .before .credit-at .ensures) (c .refund-at .ensures))
 
 pub settle-spec : {M : Type 1} → statement M
 settle-spec =

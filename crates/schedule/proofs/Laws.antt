@@ -1,0 +1,100 @@
+-- What is held after each mark of the walk is the credit that Settle gives for the marks so far.
+-- Assumes nothing.
+use mathlib.Core.Bool.{Bool, true, false}
+use mathlib.Core.List.{List, []}
+use mathlib.Core.Path.{_≡_, refl, sym, ap, _∙_}
+use Prim.Native.Nat.{ℕ, suc, _+_, _*_, _≤_, _<_, _^_}
+use native.Mathlib.Nat.{mul-le-mul}
+use native.Mathlib.Numerals.{add-one}
+use native.Mathlib.Omega.{arith}
+use borrow.Author.Tests.{ne-eqb}
+use lib.Dec.{eqb}
+use lib.ListN.{length, take, getD, length-take}
+use Rattle.common.specs.Choice.{pick}
+use Rattle.rounding.specs.Nearest.{nearest, combine}
+use Rattle.rounding.proofs.HalfUp.{nearest-within-half}
+use Rattle.rounding.proofs.Laws.{combine-upper}
+use Rattle.election.specs.declared.Terms.{Terms}
+use Rattle.marks.specs.Status.{statusOf, statusFrom}
+use Rattle.marks.specs.Reading.{marksOf}
+use Rattle.marks.proofs.Term.{marks-take}
+use Rattle.marks.proofs.StatusOf.{status-lawful, monthly-status}
+use Rattle.credit.specs.Credit.{creditOver, creditIn}
+use Rattle.credit.specs.Earned.{nothingYet, creditAt, afterMarks}
+use Rattle.credit.proofs.Bounds.{credit-most}
+use Rattle.credit.proofs.Runs.{one-mark-more, by-runs}
+use Rattle.settlement.specs.Credit.{purchaseIn, creditOf}
+use Rattle.settlement.specs.Settle.{SettleNumbers, settleRefusal, creditAtStatus}
+use Rattle.settlement.proofs.Laws.{lawful, few, refusal-take, settle-settled}
+use Rattle.settlement.proofs.Contract.{credit-combined}
+use Rattle.schedule.specs.declared.Walk.{Walk}
+use Rattle.schedule.specs.Schedule.{entryOf}
+use Rattle.schedule.specs.Walk.{walkOf, stepWalk, heldOf, Tables}
+
+module _ (t : Terms) (marks lower upper : List ℕ) (tables : Tables t marks lower upper) where
+  none : settleRefusal t marks ≡ 0
+  none = tables .none-refused
+
+  -- one step of the walk is one mark more
+  pub walk-more : (i : ℕ) → i < length marks
+      → stepWalk (walkOf t lower upper (take i marks)) lower upper (getD marks i 0) ≡ walkOf t lower upper (take (i + 1) marks)
+  walk-more i h =
+      rw (
+        marks-take (t .term) marks i (lawful t marks none .few) h (omega (arith, few t marks none)),
+        one-mark-more nearest lower nothingYet marks i h,
+        one-mark-more nearest upper nothingYet marks i h,
+      )
+
+  few-so-far : (i : ℕ) → length (take i marks) ≤ 240
+  few-so-far i = omega (arith, length-take i marks, few t marks none)
+
+  -- each table's credit so far fits, and is that of the runs so far
+  fits : (years : List ℕ) → ((n : ℕ) → getD years n 0 ≤ 650000) → (i : ℕ)
+      → creditAt nearest years (afterMarks nearest years nothingYet (take i marks)) < 2 ^ 32
+  fits years most i =
+      rw (by-runs nearest years (take i marks))
+      (omega (
+        arith,
+        credit-most nearest nearest-within-half years 650000 most (take i marks),
+        mul-le-mul {n₁ = length (take i marks)} {m₁ = 650000} {n₂ = 240} {m₂ = 650000} (few-so-far i) (omega arith),
+      ))
+
+  pub lower-fits : (i : ℕ) → creditAt nearest lower (afterMarks nearest lower nothingYet (take i marks)) < 2 ^ 32
+  lower-fits = fits lower (tables .lower-most)
+
+  pub upper-fits : (i : ℕ) → creditAt nearest upper (afterMarks nearest upper nothingYet (take i marks)) < 2 ^ 32
+  upper-fits = fits upper (tables .upper-most)
+
+  -- both combined are the credit of the runs so far
+  runs-so-far : (i : ℕ)
+      → combine (t .months) (creditAt nearest lower (afterMarks nearest lower nothingYet (take i marks)))
+      (creditAt nearest upper (afterMarks nearest upper nothingYet (take i marks)))
+      ≡ creditOf t (take i marks)
+  unfolding creditIn
+  runs-so-far i =
+      rw (by-runs nearest lower (take i marks), by-runs nearest upper (take i marks), credit-combined t (take i marks))
+      (rw (tables .lower-is)
+      (combine-upper (t .months) _ _ _ (λ odd. ap (λ (y : List ℕ). creditOver nearest y (take i marks)) (tables .upper-is odd))))
+
+  -- a monthly contract's credit by its status
+  by-status : (ms : List ℕ) → creditAtStatus t ms (statusOf (t .term) ms) ≡ pick (eqb (statusOf (t .term) ms) 5) 0 (creditOf t ms)
+  unfolding creditAtStatus
+  by-status ms = rw (ne-eqb (statusOf (t .term) ms) 6 (λ z. omega (arith, monthly-status (t .term) ms (tables .monthly))))
+
+  -- the entry, by the status after the marks so far
+  entry-is : (i : ℕ) → entryOf t marks i
+      ≡ pick (eqb (statusOf (t .term) (take (suc i) marks)) 5) 0 (creditOf t (take (suc i) marks))
+  unfolding entryOf
+  entry-is i =
+      ap (λ (n : SettleNumbers). n .credit) (settle-settled t (take (suc i) marks) (refusal-take t marks none (suc i)))
+      ∙ by-status (take (suc i) marks)
+
+  pub entry-held : (i : ℕ) → heldOf t (walkOf t lower upper (take (i + 1) marks)) lower upper ≡ entryOf t marks i
+  unfolding heldOf
+  entry-held i =
+      rw (
+        add-one i,
+        status-lawful (t .term) (take (suc i) marks) (lawful t (take (suc i) marks) (refusal-take t marks none (suc i))),
+        runs-so-far (suc i),
+      )
+      (sym (entry-is i))

@@ -1,0 +1,120 @@
+-- `schedule::schedule` meets its contract: Settle's refusal, then a short list, then the entries.
+-- Assumes nothing.
+use mathlib.Core.List.{List, []}
+use mathlib.Core.Path.{_≡_, refl, sym, ap, subst, _∙_}
+use Prim.Native.Nat.{ℕ, _+_, _*_, _/_, _≤_, _<_}
+use native.Mathlib.Omega.{arith}
+use lib.ListN.{length, getD}
+use borrow.Author.Needs.{needs}
+use borrow.Author.Tests.{eq-eqb, ne-eqb, lt-ltb, le-ltb}
+use Rattle.common.specs.Table.{tabulate}
+use Rattle.election.specs.declared.Terms.{Terms}
+use Rattle.schedule.specs.Schedule.{ScheduleNumbers, filledOf, scheduleOf}
+use Rattle.schedule.specs.Walk.{Tables}
+use Rattle.settlement.proofs.Contract.{lower-priced, years-of}
+use Rattle.settlement.proofs.Examination.{examined-told, examined-none, examined-monthly}
+use Rattle.settlement.proofs.Laws.{lawful, accepted, examined-refused}
+use Rattle.settlement.specs.Examine.{examinedOf}
+use Rattle.settlement.specs.Settle.{settleRefusal, settlePlace}
+use Rattle.settlement.specs.Told.{Monthly}
+use Rattle.settlement.specs.declared.Examined.{Examined}
+use Rattle.schedule.proofs.schedule.Statement.{statement}
+use Rattle.schedule.proofs.schedule.Tie as tie
+
+at-list : List ℕ → ScheduleNumbers
+at-list l = record { refusal = 0; place = 0; list = l }
+
+module _ (t : Terms) (marks list : List ℕ) where
+  refused : {e : Examined} → e ≡ examinedOf t marks → (e .refusal ≡ 0 → ⊥)
+      → _≡_ {A = ScheduleNumbers} (record { refusal = e .refusal; place = e .place; list = list }) (scheduleOf t marks list)
+  unfolding scheduleOf
+  refused is some =
+      let refuses : settleRefusal t marks ≡ 0 → ⊥ = λ z. some (examined-told t marks is ∙ z) in
+      rw (is, examined-refused t marks refuses, ne-eqb (settleRefusal t marks) 0 refuses)
+
+  short : settleRefusal t marks ≡ 0 → length list < length marks
+      → _≡_ {A = ScheduleNumbers} (record { refusal = 14; place = 0; list = list }) (scheduleOf t marks list)
+  unfolding scheduleOf
+  short none h = rw (eq-eqb (settleRefusal t marks) 0 none, lt-ltb (length list) (length marks) h)
+
+  filled : settleRefusal t marks ≡ 0 → length marks ≤ length list
+      → _≡_ {A = ScheduleNumbers} (record { refusal = 0; place = 0; list = filledOf t marks list }) (scheduleOf t marks list)
+  unfolding scheduleOf
+  filled none h = rw (eq-eqb (settleRefusal t marks) 0 none, le-ltb (length list) (length marks) h)
+
+  -- with no marks nothing is written
+  unwritten : length marks ≡ 0 → list ≡ filledOf t marks list
+  unfolding filledOf tabulate
+  unwritten e = rw e
+
+-- a contract with a mark is monthly
+monthly-terms : (t : Terms) (marks : List ℕ) {e : Examined} → e ≡ examinedOf t marks → e .refusal ≡ 0 → (length marks ≡ 0 → ⊥)
+    → Monthly t (e .lower) (e .upper)
+monthly-terms t marks is z some =
+    let none = examined-none t marks is z in
+    examined-monthly t marks is none (omega (arith, lawful t marks none .few))
+
+examine-requires : tie.Need-examine-requires
+examine-requires c κs = search needs
+
+returns : tie.Need-returns
+returns c = refused _ _ _ (c .before .before .examine .ensures) (c .if1 .taken)
+
+returns-2 : tie.Need-returns-2
+returns-2 c = short _ _ _ (examined-none _ _ (c .before .before .before .examine .ensures) (c .before .if1 .left)) (c .if2 .taken)
+
+returns-3 : tie.Need-returns-3
+unfolding at-list
+returns-3 c =
+    let none = examined-none _ _ (c .before .before .before .before .examine .ensures) (c .before .before .if1 .left) in
+    ap at-list (unwritten (c .before .before .before .before .before .before .before .args .t) _ _ (c .if3 .taken)) ∙ filled _ _ _ none (c .before .if2 .left)
+
+year-credits-requires : tie.Need-year-credits-requires
+year-credits-requires c κs =
+    let m = monthly-terms _ _ (c .before .before .before .before .before .before .before .examine .ensures) (c .before .before .before .before .before .if1 .left) (c .before .before .before .if3 .left) in
+    lower-priced _ (m .accepted) (m .some-years) (m .lower-is)
+
+upper-years-requires : tie.Need-upper-years-requires
+upper-years-requires c κs =
+    let m = monthly-terms _ _ (c .before .before .before .before .before .before .before .before .examine .ensures) (c .before .before .before .before .before .before .if1 .left) (c .before .before .before .before .if3 .left) in
+    (m, λ n. omega (arith, c .year-credits .ensures .most n, m .accepted .under-cap))
+
+fill-requires : tie.Need-fill-requires
+fill-requires c κs =
+    let e = c .before .before .before .before .before .before .before .before .before .before .examine .ensures in
+    let m = monthly-terms _ _ e (c .before .before .before .before .before .before .before .before .if1 .left) (c .before .before .before .before .before .before .if3 .left) in
+    let y = c .before .before .year-credits .ensures in
+    let u = c .before .upper-years .ensures in (
+      record {
+        none-refused = examined-none _ _ e (c .before .before .before .before .before .before .before .before .if1 .left);
+        monthly = m .some-years;
+        lower-is = years-of (c .before .before .before .before .before .before .before .before .before .before .before .before .before .args .t) _ _ (m .lower-is) y;
+        upper-is = u .is;
+        lower-most = λ n. omega (arith, y .most n, m .accepted .under-cap);
+        upper-most = u .most;
+      },
+      c .before .before .before .before .before .before .before .if2 .left,
+    )
+
+same-length : tie.Need-same-length
+same-length c = search needs
+
+returns-4 : tie.Need-returns-4
+unfolding at-list
+returns-4 c =
+    let none = examined-none _ _ (c .before .before .before .before .before .before .before .before .before .before .before .before .before .examine .ensures) (c .before .before .before .before .before .before .before .before .before .before .before .if1 .left) in
+    ap at-list (c .before .before .fill .ensures) ∙ filled _ _ _ none (c .before .before .before .before .before .before .before .before .before .before .if2 .left)
+
+pub schedule-spec : {M : Type 1} → statement M
+schedule-spec =
+    tie.close
+    (tie.spec
+    examine-requires
+    returns
+    returns-2
+    returns-3
+    year-credits-requires
+    upper-years-requires
+    fill-requires
+    same-length
+    returns-4)

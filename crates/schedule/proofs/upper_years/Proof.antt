@@ -1,0 +1,27 @@
+-- `schedule::upper_years` meets its contract: the upper table's row has a price with odd months.
+-- Assumes nothing.
+use Prim.Native.Nat.{ℕ, _+_}
+use native.Mathlib.Omega.{arith}
+use Rattle.settlement.proofs.Contract.{upper-priced, years-of}
+use Rattle.schedule.proofs.upper_years.Statement.{statement}
+use Rattle.schedule.proofs.upper_years.Tie as tie
+
+returns : tie.Need-returns
+returns c = record { is = λ odd. absurd (odd (c .if1 .taken)); most = c .before .before .pre .1 }
+
+year-credits-requires : tie.Need-year-credits-requires
+year-credits-requires c κs =
+    let m = c .before .before .before .pre .0 in
+    upper-priced _ (m .accepted) (m .some-years) (c .before .if1 .left) (m .upper-is (c .before .if1 .left))
+
+returns-2 : tie.Need-returns-2
+returns-2 c =
+    let m = c .before .before .before .before .pre .0 in
+    let y = c .year-credits .ensures in
+    record {
+      is = λ odd. years-of (c .before .before .before .before .args .t) _ _ (m .upper-is odd) y;
+      most = λ n. omega (arith, y .most n, m .accepted .under-cap);
+    }
+
+pub upper-years-spec : {M : Type 1} → statement M
+upper-years-spec = tie.close (tie.spec returns year-credits-requires returns-2)

@@ -1,0 +1,32 @@
+-- `schedule::walk_on` meets its contract: one step of the reading and of each table's state.
+-- Assumes nothing.
+use native.Mathlib.Omega.{arith}
+use borrow.Author.Needs.{needs}
+use Rattle.schedule.proofs.walk_on.Statement.{statement}
+use Rattle.schedule.proofs.walk_on.Tie as tie
+
+step-requires : tie.Need-step-requires
+step-requires c κs = search needs
+
+after-mark-requires : tie.Need-after-mark-requires
+after-mark-requires c κs = record { few = omega arith; small = omega arith }
+
+after-mark-requires-2 : tie.Need-after-mark-requires-2
+after-mark-requires-2 c κs = record { few = omega arith; small = omega arith }
+
+returns : tie.Need-returns
+returns c =
+    let l = c .before .after-mark .ensures in
+    let u = c .after-mark2 .ensures in
+    record {
+      is = rw (c .before .before .step .ensures, l .is, u .is);
+      within = record {
+        lower-month = omega (arith, l .next);
+        lower-small = omega (arith, l .next, l .small);
+        upper-month = omega (arith, u .next);
+        upper-small = omega (arith, u .next, u .small);
+      };
+    }
+
+pub walk-on-spec : {M : Type 1} → statement M
+walk-on-spec = tie.close (tie.spec step-requires after-mark-requires after-mark-requires-2 returns)

@@ -1,0 +1,33 @@
+-- What a caller knows of an examination: whether it refuses, and of a monthly contract the rows of its tables.
+-- Assumes nothing.
+use mathlib.Core.List.{List}
+use mathlib.Core.Path.{_≡_, sym, ap, _∙_}
+use Prim.Native.Nat.{ℕ, _+_, _<_}
+use Rattle.election.specs.declared.Terms.{Terms}
+use Rattle.election.proofs.Rates.{monthly-rates, monthly-upper-rates}
+use Rattle.marks.specs.Status.{statusOf}
+use Rattle.settlement.specs.declared.Examined.{Examined}
+use Rattle.settlement.specs.Settle.{settleRefusal}
+use Rattle.settlement.specs.Examine.{examinedOf}
+use Rattle.settlement.specs.Told.{Monthly}
+use Rattle.settlement.proofs.Laws.{accepted, examined-accepted, examined-refusal}
+
+module _ (t : Terms) (ms : List ℕ) {e : Examined} (is : e ≡ examinedOf t ms) where
+  pub examined-told : e .refusal ≡ settleRefusal t ms
+  examined-told = ap (λ (x : Examined). x .refusal) is ∙ examined-refusal t ms
+
+  pub examined-none : e .refusal ≡ 0 → settleRefusal t ms ≡ 0
+  examined-none z = sym examined-told ∙ z
+
+  pub examined-status : settleRefusal t ms ≡ 0 → e .status ≡ statusOf (t .term) ms
+  examined-status none = rw (is, examined-accepted t ms none)
+
+  pub examined-monthly : settleRefusal t ms ≡ 0 → 0 < t .term → Monthly t (e .lower) (e .upper)
+  examined-monthly none years =
+      rw (is, examined-accepted t ms none)
+      (record {
+        accepted = accepted t ms none;
+        some-years = years;
+        lower-is = monthly-rates t (t .years) years;
+        upper-is = monthly-upper-rates t (t .years + 1) years;
+      })
