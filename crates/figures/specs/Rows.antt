@@ -1,11 +1,15 @@
 -- Document 01, "Figures at the edges": the figures marked P. A row holds what the definitions give and what the paper states.
 -- Assumes nothing.
-use mathlib.Core.List.{List, [], _∷_}
+use mathlib.Core.List.{List, [], _∷_, _++_}
 use Prim.Native.Nat.{ℕ}
-use Rattle.rounding.specs.Nearest.{blend}
+use lib.ListN.{take, replicate}
+use Rattle.rounding.specs.Nearest.{nearest, blend}
 use Rattle.election.specs.declared.Terms.{Terms}
 use Rattle.election.specs.Rules.{refusalOf}
 use Rattle.election.specs.Price.{contributionOf}
+use Rattle.credit.specs.Years.{yearCredits, monthValue}
+use Rattle.settlement.specs.Credit.{purchaseIn}
+use Rattle.settlement.specs.Settle.{settleOf}
 
 pub record Row : Type 0 where
   pub found : List ℕ
@@ -31,6 +35,10 @@ nineYears = at50 67 9 1250
 abbrev pub fiveYears : Terms
 fiveYears = at50 65 5 1000
 
+-- document 000's fourth example: £1,750 over 10 years from age 54, at 66 years 5 months
+abbrev pub oddMonths : Terms
+oddMonths = record { age = 54; years = 66; months = 5; option = 2; payer = 1; term = 10; amount = 1750 }
+
 -- the costs of both; two contributions at 5 odd months; £250 and £500 beside an existing £6,250
 unfoldable pub priceRows : List Row
 priceRows =
@@ -40,3 +48,58 @@ priceRows =
     ∷ (only (refusalOf (at50 65 5 250) 625000) is only 0)
     ∷ (only (refusalOf (at50 65 5 500) 625000) is only 8)
     ∷ []
+
+-- months paid and months missed
+abbrev pub paid : ℕ → List ℕ
+paid n = replicate n 1
+
+abbrev pub missed : ℕ → List ℕ
+missed n = replicate n 0
+
+-- the numbers of a settlement: refusal, place, contribution, status, credit, refund
+abbrev pub settled : Terms → List ℕ → List ℕ
+settled t marks =
+    let n = settleOf t marks in
+    n .refusal ∷ n .place ∷ n .contribution ∷ n .status ∷ n .credit ∷ n .refund ∷ []
+
+-- the whole-year credits of the only table, for the first years
+abbrev pub firstYears : ℕ → Terms → List ℕ
+firstYears n t = take n (yearCredits nearest (purchaseIn t (t .years)))
+
+-- the value at a contract month in the only table
+abbrev pub valueAt : Terms → ℕ → ℕ
+valueAt t month = monthValue nearest (yearCredits nearest (purchaseIn t (t .years))) month
+
+-- year 1 and five paid months of the first contract; years 1 to 5, 18 paid months and the gap of the second
+unfoldable pub creditRows : List Row
+creditRows =
+    (firstYears 2 nineYears is (0 ∷ 17198 ∷ []))
+    ∷ (settled nineYears (paid 5) is (0 ∷ 0 ∷ 17150 ∷ 1 ∷ 7166 ∷ 0 ∷ []))
+    ∷ (firstYears 6 fiveYears is (0 ∷ 22259 ∷ 43338 ∷ 63285 ∷ 82201 ∷ 100000 ∷ []))
+    ∷ (settled fiveYears (paid 18) is (0 ∷ 0 ∷ 24200 ∷ 1 ∷ 32799 ∷ 0 ∷ []))
+    ∷ ((valueAt fiveYears 18 ∷ valueAt fiveYears 28 ∷ valueAt fiveYears 22 ∷ []) is (32799 ∷ 49987 ∷ 39825 ∷ []))
+    ∷ (settled fiveYears (paid 18 ++ (missed 4 ++ paid 6)) is (0 ∷ 0 ∷ 24200 ∷ 1 ∷ 42961 ∷ 0 ∷ []))
+    ∷ []
+
+-- notice after eleven and after twelve paid months, resuming after eleven and after twelve missed ones, and first marks 0 and 2
+unfoldable pub statusRows : List Row
+statusRows =
+    (settled fiveYears (paid 11 ++ (2 ∷ [])) is (0 ∷ 0 ∷ 24200 ∷ 5 ∷ 0 ∷ 266200 ∷ []))
+    ∷ (settled fiveYears (paid 12 ++ (2 ∷ [])) is (0 ∷ 0 ∷ 24200 ∷ 4 ∷ 22259 ∷ 0 ∷ []))
+    ∷ (only (settleOf fiveYears (paid 1 ++ (missed 11 ++ paid 1)) .refusal) is only 0)
+    ∷ (settled fiveYears (paid 1 ++ (missed 12 ++ paid 1)) is (12 ∷ 13 ∷ 0 ∷ 0 ∷ 0 ∷ 0 ∷ []))
+    ∷ (settled fiveYears (0 ∷ []) is (12 ∷ 0 ∷ 0 ∷ 0 ∷ 0 ∷ 0 ∷ []))
+    ∷ (settled fiveYears (2 ∷ []) is (0 ∷ 0 ∷ 24200 ∷ 5 ∷ 0 ∷ 0 ∷ []))
+    ∷ []
+
+-- not in the paper: a contract on which rounding only at the end would give a penny more, and one with 5 odd months on which dividing
+-- the blended contribution by each table's rate would give other figures
+unfoldable pub tellingRows : List Row
+tellingRows =
+    (settled fiveYears (paid 1 ++ (missed 1 ++ paid 5)) is (0 ∷ 0 ∷ 24200 ∷ 1 ∷ 11129 ∷ 0 ∷ []))
+    ∷ (settled oddMonths (paid 30) is (0 ∷ 0 ∷ 25573 ∷ 1 ∷ 54042 ∷ 0 ∷ []))
+    ∷ []
+
+-- all of them
+unfoldable pub rows : List Row
+rows = priceRows ++ (creditRows ++ (statusRows ++ tellingRows))
