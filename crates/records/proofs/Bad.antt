@@ -1,9 +1,9 @@
 -- A record is bad by any of three faults, and not bad where it has none.
 -- Assumes nothing.
 use mathlib.Core.Bool.{Bool, true, false, not, _||_}
-use mathlib.Core.Path.{_≡_, refl, ap}
+use mathlib.Core.Path.{_≡_, refl, sym, ap, _∙_}
 use Prim.Native.Nat.{ℕ, _<_, _≤_}
-use native.Mathlib.Omega.{arith}
+use native.Mathlib.Decide.{ℕ-discrete}
 use borrow.Author.Tests.{lt-ltb, le-ltb, eq-eqb, ne-eqb, ltb-false, eqb-true, not-false}
 use lib.Dec.{ltb, eqb}
 use Rattle.common.specs.Choice.{pick}
@@ -58,7 +58,26 @@ module _ (c : Contract) where
   unfolding examinedOf
   bad-examined e = rw e
 
-  pub good-examined : badRecord c ≡ false → (k : PensionPence) → k .0 ≡ settledRecord c .credit
+  pub good-examined : Good → (k : PensionPence) → k .0 ≡ settledRecord c .credit
       → _≡_ {A = Examined} (record { bad = false; credit = k }) (examinedOf c)
   unfolding examinedOf
-  good-examined e k d = rw (e, ← d)
+  good-examined g k d = rw (good-record g, ← d)
+
+  -- goes by the number of Settle's refusal, whatever it is
+  pub told-examined : (n : ℕ) (k : PensionPence) → c .count ≤ 240 → allZero (unusedMarks c) ≡ true
+      → n ≡ settledRecord c .refusal → 0 ≡ settledRecord c .credit → k ≡ pension 0
+      → _≡_ {A = Examined} (record { bad = not (eqb n 0); credit = k }) (examinedOf c)
+  told-examined n k few zeros e d z = rw z (go (ℕ-discrete n 0))
+    where
+      go : Dec (n ≡ 0) → _≡_ {A = Examined} (record { bad = not (eqb n 0); credit = pension 0 }) (examinedOf c)
+      go (yes none) =
+          rw (eq-eqb n 0 none) (good-examined (record { settled = sym e ∙ none; few = few; zeros = zeros }) (pension 0) d)
+      go (no some) = rw (ne-eqb n 0 some) (bad-examined (refused-bad (λ z. some (e ∙ z))))
+
+  pub examined-bad : {r : Examined} → r ≡ examinedOf c → r .bad ≡ badRecord c
+  unfolding examinedOf
+  examined-bad e = ap (λ (r : Examined). r .bad) e
+
+  pub examined-credit : {r : Examined} → r ≡ examinedOf c → badRecord c ≡ false → r .credit ≡ pension (settledRecord c .credit)
+  unfolding examinedOf
+  examined-credit e b = ap (λ (r : Examined). r .credit) e ∙ rw b

@@ -1,2 +1,4 @@
 pub mod Zeros
 pub mod Bad
+pub mod Cells
+pub mod Posting

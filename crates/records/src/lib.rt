@@ -91,8 +91,16 @@ pub fn examine(c: Contract) -> Examined
     }
     let terms = c.terms;
     match settlement::settle(terms, &marks[..count]) {
-        Settlement::Refused { refusal: _, place: _ } => bad_record(),
-        Settlement::Settled { contribution: _, status: _, credit, refund: _ } => Examined {
+        Settlement::Refused { refusal, place: _ } => Examined {
+            bad: refusal != 0,
+            credit: PensionPence::none(),
+        },
+        Settlement::Settled {
+            contribution: _,
+            status: _,
+            credit,
+            refund: _,
+        } => Examined {
             bad: false,
             credit,
         },

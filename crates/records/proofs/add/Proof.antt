@@ -1,31 +1,44 @@
+-- `records::add` meets its contract. No credit is above the cap, so the sum fits.
+-- Assumes nothing.
+use mathlib.Core.Path.{_≡_, sym, ap, _∙_}
+use Prim.Native.Nat.{ℕ, _≤_}
+use native.Mathlib.Omega.{arith}
 use borrow.Author.Needs.{needs}
+use Rattle.money.specs.declared.PensionPence.{PensionPence}
+use Rattle.settlement.proofs.Laws.{settle-bounds}
+use Rattle.records.specs.Record.{usedMarks, settledRecord}
+use Rattle.records.specs.Total.{addOf}
+use Rattle.records.proofs.Bad.{examined-bad, examined-credit}
 use Rattle.records.proofs.add.Statement.{statement}
 use Rattle.records.proofs.add.Tie as tie
-use Rattle.records.proofs.add.Reads as reads
-use Rattle.records.proofs.add.Lts as lts
-use Rattle.money.proofs.PensionPence.plus.Reads as plus-reads
-use Rattle.records.proofs.examine.Reads as examine-reads
-use Rattle.records.proofs.refused.Reads as refused-reads
 
--- src/lib.rt:207:9
 examine-requires : tie.Need-examine-requires
 examine-requires c κs = search needs
 
--- src/lib.rt:209:9
 refused-requires : tie.Need-refused-requires
 refused-requires c κs = search needs
 
--- src/lib.rt:209:9
 returns : tie.Need-returns
-returns c = ?
+unfolding addOf
+returns c =
+    let bad = sym (examined-bad _ (c .before .before .examine .ensures)) ∙ c .before .if1 .taken in
+    rw bad (c .refused .ensures)
 
--- src/lib.rt:212:9
 plus-requires : tie.Need-plus-requires
-plus-requires c κs = ?
+plus-requires c κs =
+    let start = c .before .before .before in
+    let e = c .before .before .examine .ensures in
+    let credit = ap (λ (k : PensionPence). k .0) (examined-credit (start .args .c) e (sym (examined-bad (start .args .c) e) ∙ c .before .if1 .left)) in
+    omega (arith, credit, settle-bounds (start .args .c .terms) (usedMarks (start .args .c)), start .pre)
 
--- src/lib.rt:203:1
 returns-2 : tie.Need-returns-2
-returns-2 c = ?
+unfolding addOf
+returns-2 c =
+    let start = c .before .before .before .before in
+    let e = c .before .before .before .examine .ensures in
+    let good = sym (examined-bad (start .args .c) e) ∙ c .before .before .if1 .left in
+    let credit = examined-credit (start .args .c) e good in
+    rw (good, c .plus .ensures, credit)
 
 pub add-spec : {M : Type 1} → statement M
 add-spec = tie.close (tie.spec examine-requires refused-requires returns plus-requires returns-2)

@@ -1,34 +1,52 @@
+-- `records::decide` meets its contract: success writes the mark at the count, a refusal what stands at 0.
+-- Assumes nothing.
+use mathlib.Core.Path.{_≡_, sym, _∙_}
+use Prim.Native.Nat.{ℕ, _<_}
+use native.Mathlib.Omega.{arith}
 use borrow.Author.Needs.{needs}
+use Rattle.records.proofs.Cells.{marks-length}
+use Rattle.records.proofs.Posting.{Taken, taken, success-answer, success-record, refusal-answer, refusal-record, unchanged}
 use Rattle.records.proofs.decide.Statement.{statement}
 use Rattle.records.proofs.decide.Tie as tie
-use Rattle.records.proofs.decide.Reads as reads
-use Rattle.records.proofs.decide.Lts as lts
-use Rattle.records.proofs.place.Reads as place-reads
-use Rattle.records.proofs.refuse_post.Reads as refuse-post-reads
 
--- src/lib.rt:137:9
 refuse-post-requires : tie.Need-refuse-post-requires
 refuse-post-requires c κs = search needs
 
--- src/lib.rt:144:20
 add-t8 : tie.Need-add-t8
-add-t8 c = ?
+add-t8 c =
+    let start = c .before .before .before in
+    let full = marks-length (start .args .c) (start .good .0) in
+    let none = sym (c .before .before .refuse-post .ensures) ∙ c .if1 .taken in
+    omega (arith, taken (start .args .c) (start .args .mark) full none .room)
 
--- src/lib.rt:141:9
 returns : tie.Need-returns
-returns c = ?
+returns c =
+    let start = c .before .before .before in
+    let full = marks-length (start .args .c) (start .good .0) in
+    let none = sym (c .before .before .refuse-post .ensures) ∙ c .if1 .taken in
+    record {
+      inside = taken (start .args .c) (start .args .mark) full none .room;
+      answer = success-answer (start .args .c) (start .args .mark) none;
+      makes = success-record (start .args .c) (start .args .mark) none;
+    }
 
--- src/lib.rt:151:9
 place-requires : tie.Need-place-requires
 place-requires c κs = search needs
 
--- src/lib.rt:154:15
 array-read-t12 : tie.Need-array-read-t12
 array-read-t12 c = search needs
 
--- src/lib.rt:134:1
 returns-2 : tie.Need-returns-2
-returns-2 c = ?
+returns-2 c =
+    let start = c .before .before .before .before in
+    let e = c .before .before .before .refuse-post .ensures in
+    record {
+      inside = omega arith;
+      answer = refusal-answer (start .args .c) (start .args .mark) _ _ e (c .place .ensures);
+      makes =
+          unchanged (start .args .c) (start .args .mark) 0
+          ∙ sym (refusal-record (start .args .c) (start .args .mark) (λ z. c .before .if1 .left (e ∙ z)));
+    }
 
 pub decide-spec : {M : Type 1} → statement M
 decide-spec =

@@ -1,71 +1,103 @@
+-- `records::examine` meets its contract: the tests in turn, then Settle of the marks in use.
+-- Assumes nothing.
+use mathlib.Core.Bool.{Bool, true, false}
+use mathlib.Core.List.{List}
+use mathlib.Core.Path.{_≡_, refl, sym, ap, _∙_}
+use Prim.Native.Nat.{ℕ, _-_, _≤_}
+use native.Mathlib.Omega.{arith}
 use borrow.Author.Needs.{needs}
+use borrow.Author.Tests.{not-true, not-false}
+use lib.ListN.{length, take, length-drop}
+use lib.Seq.{length-take-le, take-all}
+use Rattle.settlement.specs.Settle.{SettleNumbers, numbersOf}
+use Rattle.records.specs.declared.Contract.{Contract}
+use Rattle.records.specs.Record.{unusedMarks, allZero}
+use Rattle.records.proofs.Bad.{count-bad, unused-bad, bad-examined, good-examined, told-examined}
+use Rattle.records.proofs.Cells.{Held, marks-length}
 use Rattle.records.proofs.examine.Statement.{statement}
 use Rattle.records.proofs.examine.Tie as tie
-use Rattle.records.proofs.examine.Reads as reads
-use Rattle.records.proofs.examine.Lts as lts
-use Rattle.records.proofs.all_zero.Reads as all-zero-reads
-use Rattle.records.proofs.bad_record.Reads as bad-record-reads
-use Rattle.settlement.proofs.settle.Reads as settle-reads
 
--- src/lib.rt:87:9
+-- the marks from the count on are those that are not in use
+unused-zero : (c : Contract) → Held c → {z : Bool} → z ≡ allZero (take (240 - c .count) (unusedMarks c)) → allZero (unusedMarks c) ≡ z
+unused-zero c h e =
+    let l = marks-length c h in
+    let n = length-drop (c .count) (c .marks) in
+    sym (e ∙ ap allZero (take-all (240 - c .count) (unusedMarks c) (omega arith)))
+
 bad-record-requires : tie.Need-bad-record-requires
 bad-record-requires c κs = search needs
 
--- src/lib.rt:87:9
 returns : tie.Need-returns
-returns c = ?
+returns c = c .bad-record .ensures ∙ bad-examined _ (count-bad _ (c .before .if1 .taken))
 
--- src/lib.rt:89:18
 part-all-zero-start : tie.Need-part-all-zero-start
 part-all-zero-start c = search needs
 
--- src/lib.rt:89:18
 part-all-zero-end : tie.Need-part-all-zero-end
-part-all-zero-end c = ?
+part-all-zero-end c =
+    let start = c .before .before .before in
+    omega (arith, marks-length (start .args .c) (start .good .0))
 
--- src/lib.rt:89:9
 all-zero-requires : tie.Need-all-zero-requires
 all-zero-requires c κs = search needs
 
--- src/lib.rt:90:9
 bad-record-requires-2 : tie.Need-bad-record-requires-2
 bad-record-requires-2 c κs = search needs
 
--- src/lib.rt:90:9
 returns-2 : tie.Need-returns-2
-returns-2 c = ?
+returns-2 c =
+    let start = c .before .before .before .before .before .before .before in
+    c .bad-record2 .ensures
+    ∙ bad-examined (start .args .c) (unused-bad (start .args .c) (unused-zero (start .args .c) (start .good .0) (c .before .before .all-zero .ensures) ∙ not-true _ (c .before .if2 .taken)))
 
--- src/lib.rt:93:37
 array-share-prefix-marks : tie.Need-array-share-prefix-marks
-array-share-prefix-marks c = ?
+array-share-prefix-marks c =
+    let start = c .before .before .before .before .before .before .before in
+    omega (arith, marks-length (start .args .c) (start .good .0))
 
--- src/lib.rt:93:37
 slice-aggregate-settle : tie.Need-slice-aggregate-settle
-slice-aggregate-settle c = ?
+slice-aggregate-settle c =
+    let start = c .before .before .before .before .before .before .before .before in
+    sym (length-take-le (start .args .c .count) (start .args .c .marks) (omega (arith, marks-length (start .args .c) (start .good .0))))
 
--- src/lib.rt:93:11
 settle-requires : tie.Need-settle-requires
 settle-requires c κs = search needs
 
--- src/lib.rt:94:57
-enum-told : tie.Need-enum-told
-enum-told c = search needs
+enum-known-refusal : tie.Need-enum-known-refusal
+enum-known-refusal c = search needs
 
--- src/lib.rt:94:57
-bad-record-requires-3 : tie.Need-bad-record-requires-3
-bad-record-requires-3 c κs = search needs
+none-requires : tie.Need-none-requires
+none-requires c κs = search needs
 
--- src/lib.rt:95:59
 enum-known-credit : tie.Need-enum-known-credit
 enum-known-credit c = search needs
 
--- src/lib.rt:81:1
 returns-3 : tie.Need-returns-3
-returns-3 c = ?
+returns-3 c =
+    let d = c .before .before .before .before .before .before .before in
+    let start = d .before .before .before .before .before .before in
+    let r = c .before .before .refusal .given in
+    let told = sym (ap numbersOf (r .1)) ∙ c .before .before .before .before .settle .ensures .0 in
+    told-examined (start .args .c) (r .0 .0) _ (d .before .before .before .before .if1 .left)
+    (unused-zero (start .args .c) (start .good .0) (d .before .all-zero .ensures) ∙ not-false _ (d .if2 .left))
+    (ap (λ (n : SettleNumbers). n .refusal) told)
+    (ap (λ (n : SettleNumbers). n .credit) told)
+    (c .none .ensures)
 
--- src/lib.rt:81:1
 returns-4 : tie.Need-returns-4
-returns-4 c = ?
+returns-4 c =
+    let d = c .before .before .before .before .before .before in
+    let start = d .before .before .before .before .before .before in
+    let r = c .before .credit .given in
+    let told = sym (ap numbersOf (r .1)) ∙ c .before .before .before .settle .ensures .0 in
+    good-examined (start .args .c)
+    (record {
+      settled = sym (ap (λ (n : SettleNumbers). n .refusal) told);
+      few = d .before .before .before .before .if1 .left;
+      zeros = unused-zero (start .args .c) (start .good .0) (d .before .all-zero .ensures) ∙ not-false _ (d .if2 .left);
+    })
+    _
+    (ap (λ (n : SettleNumbers). n .credit) told)
 
 pub examine-spec : {M : Type 1} → statement M
 examine-spec =
@@ -81,8 +113,8 @@ examine-spec =
     array-share-prefix-marks
     slice-aggregate-settle
     settle-requires
-    enum-told
-    bad-record-requires-3
+    enum-known-refusal
+    none-requires
     enum-known-credit
     returns-3
     returns-4)

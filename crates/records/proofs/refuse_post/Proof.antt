@@ -1,51 +1,65 @@
+-- `records::refuse_post` meets its contract: a bad record, then no month left, then the mark after those in use.
+-- Assumes nothing.
+use mathlib.Core.Path.{_≡_, sym, ap, _∙_}
+use Prim.Native.Nat.{ℕ, _≤_}
+use native.Mathlib.Omega.{arith}
 use borrow.Author.Needs.{needs}
+use lib.ListN.{length, take}
+use Rattle.marks.specs.Reading.{oneMore, stepBy}
+use Rattle.marks.specs.declared.Reading.{Reading}
+use Rattle.records.proofs.Bad.{Good, not-bad, examined-bad}
+use Rattle.records.proofs.Cells.{marks-length}
+use Rattle.records.proofs.Posting.{bad-refused, used-length, over-refused, mark-refused}
 use Rattle.records.proofs.refuse_post.Statement.{statement}
 use Rattle.records.proofs.refuse_post.Tie as tie
-use Rattle.records.proofs.refuse_post.Reads as reads
-use Rattle.records.proofs.refuse_post.Lts as lts
-use Rattle.marks.proofs.read_marks.Reads as read-marks-reads
-use Rattle.marks.proofs.step.Reads as step-reads
-use Rattle.records.proofs.examine.Reads as examine-reads
 
--- src/lib.rt:106:9
 examine-requires : tie.Need-examine-requires
 examine-requires c κs = search needs
 
--- src/lib.rt:108:9
 returns : tie.Need-returns
-returns c = ?
+returns c = sym (bad-refused _ _ (sym (examined-bad _ (c .before .examine .ensures)) ∙ c .if1 .taken))
 
--- src/lib.rt:114:23
 cast-if2 : tie.Need-cast-if2
 cast-if2 c = search needs
 
--- src/lib.rt:114:17
 mul-if2 : tie.Need-mul-if2
 mul-if2 c = search needs
 
--- src/lib.rt:115:9
 returns-2 : tie.Need-returns-2
-returns-2 c = ?
+returns-2 c =
+    let d = c .before .before .before in
+    let start = d .before .before in
+    sym (over-refused _ _ (marks-length (start .args .c) (start .good .0))
+    (sym (examined-bad _ (d .before .examine .ensures)) ∙ d .if1 .left) (c .if2 .taken))
 
--- src/lib.rt:117:35
 array-share-prefix-marks : tie.Need-array-share-prefix-marks
-array-share-prefix-marks c = ?
+array-share-prefix-marks c =
+    let d = c .before .before .before in
+    let start = d .before .before in
+    let good = not-bad (start .args .c) (sym (examined-bad _ (d .before .examine .ensures)) ∙ d .if1 .left) in
+    omega (arith, good .few, marks-length (start .args .c) (start .good .0))
 
--- src/lib.rt:117:35
 slice-aggregate-read-marks : tie.Need-slice-aggregate-read-marks
-slice-aggregate-read-marks c = ?
+slice-aggregate-read-marks c =
+    let d = c .before .before .before .before in
+    let start = d .before .before in
+    sym (used-length (start .args .c) (start .args .mark) (marks-length (start .args .c) (start .good .0))
+    (sym (examined-bad _ (d .before .examine .ensures)) ∙ d .if1 .left))
 
--- src/lib.rt:117:17
 read-marks-requires : tie.Need-read-marks-requires
 read-marks-requires c κs = search needs
 
--- src/lib.rt:117:5
 step-requires : tie.Need-step-requires
 step-requires c κs = search needs
 
--- src/lib.rt:103:1
 returns-3 : tie.Need-returns-3
-returns-3 c = ?
+returns-3 c =
+    let d = c .before .before .before .before .before .before in
+    let start = d .before .before in
+    ap (λ (r : Reading). r .refusal) (c .step .ensures)
+    ∙ ap (λ (r : Reading). stepBy oneMore r (start .args .mark) .refusal) (c .before .read-marks .ensures)
+    ∙ sym (mark-refused (start .args .c) (start .args .mark) (marks-length (start .args .c) (start .good .0))
+    (sym (examined-bad _ (d .before .examine .ensures)) ∙ d .if1 .left) (c .before .before .before .if2 .left))
 
 pub refuse-post-spec : {M : Type 1} → statement M
 refuse-post-spec =
