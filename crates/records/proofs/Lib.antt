@@ -2,3 +2,4 @@ pub mod Zeros
 pub mod Bad
 pub mod Cells
 pub mod Posting
+pub mod Element
