@@ -3,3 +3,4 @@ pub mod Bad
 pub mod Cells
 pub mod Posting
 pub mod Element
+pub mod Adding
