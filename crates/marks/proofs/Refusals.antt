@@ -13,7 +13,7 @@ use lib.Seq.{take-all, take-append-le, take-append-seam, take-take, getD-append-
 use Rattle.marks.specs.Counts.{lastOr, paidMonths, paidThrough, finalGap}
 use Rattle.marks.specs.Lawful.{Lawful, FirstBad}
 use Rattle.marks.specs.Reading.{refusedOf, nextRefusalOf, afterMark, stepBy, stepOf, readOn, readingOf, countsOf}
-use Rattle.marks.proofs.Cases.{by-test}
+use Rattle.common.proofs.Tests.{by-test}
 use Rattle.marks.proofs.Lists.{by-the-last, length-last}
 use Rattle.marks.proofs.Counts.{counts-missed, counts-paid, counts-ended}
 use Rattle.marks.proofs.Lawful.{Follows, follows-lawful, lawful-follows, lawful-take, none-lawful}
