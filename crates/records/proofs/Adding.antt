@@ -11,7 +11,7 @@ use lib.Dec.{ltb}
 use lib.ListN.{length, take, getD, replicate}
 use lib.Seq.{take-all, length-take-le}
 use Rattle.common.proofs.Tests.{or-false}
-use Rattle.settlement.proofs.Laws.{settle-bounds}
+use Rattle.settlement.proofs.Bounds.{settle-bounds}
 use Rattle.records.specs.declared.Contract.{Contract}
 use Rattle.records.specs.declared.Tally.{Tally}
 use Rattle.records.specs.Record.{usedMarks, settledRecord, badRecord}

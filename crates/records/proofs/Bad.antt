@@ -11,8 +11,8 @@ use Rattle.common.proofs.Tests.{or-false}
 use Rattle.money.specs.Money.{pension}
 use Rattle.money.specs.declared.PensionPence.{PensionPence}
 use Rattle.records.specs.declared.Contract.{Contract}
-use Rattle.records.specs.declared.Examined.{Examined}
-use Rattle.records.specs.Record.{unusedMarks, settledRecord, allZero, badRecord, examinedOf}
+use Rattle.records.specs.declared.RecordCheck.{RecordCheck}
+use Rattle.records.specs.Record.{unusedMarks, settledRecord, allZero, badRecord, checkOf}
 
 or-true : (a : Bool) → (a || true) ≡ true
 or-true true = refl
@@ -54,30 +54,30 @@ module _ (c : Contract) where
 
   -- what the check answers
 
-  pub bad-examined : badRecord c ≡ true → _≡_ {A = Examined} (record { bad = true; credit = pension 0 }) (examinedOf c)
-  unfolding examinedOf
-  bad-examined e = rw e
+  pub bad-check : badRecord c ≡ true → _≡_ {A = RecordCheck} (record { bad = true; credit = pension 0 }) (checkOf c)
+  unfolding checkOf
+  bad-check e = rw e
 
-  pub good-examined : Good → (k : PensionPence) → k .0 ≡ settledRecord c .credit
-      → _≡_ {A = Examined} (record { bad = false; credit = k }) (examinedOf c)
-  unfolding examinedOf
-  good-examined g k d = rw (good-record g, ← d)
+  pub good-check : Good → (k : PensionPence) → k .0 ≡ settledRecord c .credit
+      → _≡_ {A = RecordCheck} (record { bad = false; credit = k }) (checkOf c)
+  unfolding checkOf
+  good-check g k d = rw (good-record g, ← d)
 
   -- goes by the number of Settle's refusal, whatever it is
-  pub told-examined : (n : ℕ) (k : PensionPence) → c .count ≤ 240 → allZero (unusedMarks c) ≡ true
+  pub told-check : (n : ℕ) (k : PensionPence) → c .count ≤ 240 → allZero (unusedMarks c) ≡ true
       → n ≡ settledRecord c .refusal → 0 ≡ settledRecord c .credit → k ≡ pension 0
-      → _≡_ {A = Examined} (record { bad = not (eqb n 0); credit = k }) (examinedOf c)
-  told-examined n k few zeros e d z = rw z (go (ℕ-discrete n 0))
+      → _≡_ {A = RecordCheck} (record { bad = not (eqb n 0); credit = k }) (checkOf c)
+  told-check n k few zeros e d z = rw z (go (ℕ-discrete n 0))
     where
-      go : Dec (n ≡ 0) → _≡_ {A = Examined} (record { bad = not (eqb n 0); credit = pension 0 }) (examinedOf c)
+      go : Dec (n ≡ 0) → _≡_ {A = RecordCheck} (record { bad = not (eqb n 0); credit = pension 0 }) (checkOf c)
       go (yes none) =
-          rw (eq-eqb n 0 none) (good-examined (record { settled = sym e ∙ none; few = few; zeros = zeros }) (pension 0) d)
-      go (no some) = rw (ne-eqb n 0 some) (bad-examined (refused-bad (λ z. some (e ∙ z))))
+          rw (eq-eqb n 0 none) (good-check (record { settled = sym e ∙ none; few = few; zeros = zeros }) (pension 0) d)
+      go (no some) = rw (ne-eqb n 0 some) (bad-check (refused-bad (λ z. some (e ∙ z))))
 
-  pub examined-bad : {r : Examined} → r ≡ examinedOf c → r .bad ≡ badRecord c
-  unfolding examinedOf
-  examined-bad e = ap (λ (r : Examined). r .bad) e
+  pub check-bad : {r : RecordCheck} → r ≡ checkOf c → r .bad ≡ badRecord c
+  unfolding checkOf
+  check-bad e = ap (λ (r : RecordCheck). r .bad) e
 
-  pub examined-credit : {r : Examined} → r ≡ examinedOf c → badRecord c ≡ false → r .credit ≡ pension (settledRecord c .credit)
-  unfolding examinedOf
-  examined-credit e b = ap (λ (r : Examined). r .credit) e ∙ rw b
+  pub check-credit : {r : RecordCheck} → r ≡ checkOf c → badRecord c ≡ false → r .credit ≡ pension (settledRecord c .credit)
+  unfolding checkOf
+  check-credit e b = ap (λ (r : RecordCheck). r .credit) e ∙ rw b

@@ -1,43 +1,30 @@
 -- The refusal of a posting, case by case, and what holds of a record into which a mark is taken.
 -- Assumes nothing.
-use mathlib.Core.Bool.{Bool, true, false}
+use mathlib.Core.Bool.{true, false}
 use mathlib.Core.List.{List, [], _∷_, _++_}
-use mathlib.Core.Path.{_≡_, refl, sym, ap, subst, _∙_}
-use Prim.Native.Nat.{ℕ, suc, _+_, _*_, _-_, _<_, _≤_, _^_}
-use native.Mathlib.Decide.{ℕ-discrete}
+use mathlib.Core.Path.{_≡_, sym, ap, _∙_}
+use Prim.Native.Nat.{ℕ, _+_, _*_, _<_, _≤_}
 use native.Mathlib.Omega.{arith}
 use borrow.Author.Tests.{eq-eqb, ne-eqb}
-use lib.Dec.{eqb}
 use lib.ListN.{length, take, getD}
 use lib.Seq.{length-take-le, set-getD}
-use Rattle.election.specs.Rules.{refusalOf}
+use Rattle.common.proofs.Tests.{by-test}
 use Rattle.election.specs.declared.Terms.{Terms}
-use Rattle.election.proofs.Laws.{accepted-facts}
 use Rattle.marks.specs.Reading.{oneMore, stepBy, marksOf}
 use Rattle.marks.specs.declared.Reading.{Reading}
 use Rattle.marks.proofs.Lists.{length-last}
-use Rattle.marks.proofs.Term.{too-many, marks-lawful, marks-last}
-use Rattle.settlement.specs.Settle.{settleOf, settleRefusal}
-use Rattle.settlement.proofs.Laws.{settle-refusal}
+use Rattle.marks.proofs.Term.{too-many, marks-last}
+use Rattle.settlement.specs.Settle.{settleOf}
+use Rattle.settlement.proofs.Laws.{terms-pass, refused-by-marks, few, settle-refusal}
 use Rattle.records.specs.declared.Contract.{Contract}
 use Rattle.records.specs.declared.Posted.{Posted}
 use Rattle.records.specs.Record.{usedMarks, badRecord}
 use Rattle.records.specs.Post.{postRefusal, placeOf, postOf, written, postedRecord}
 use Rattle.records.proofs.Bad.{Good, not-bad}
 
--- Where Settle refuses some marks by neither terms nor marks, it refuses others by the marks alone.
-
-accepted-terms : (t : Terms) (ms : List ℕ) → settleOf t ms .refusal ≡ 0 → refusalOf t 0 ≡ 0
-unfolding settleRefusal
-accepted-terms t ms e = go (ℕ-discrete (refusalOf t 0) 0)
-  where
-    go : Dec (refusalOf t 0 ≡ 0) → refusalOf t 0 ≡ 0
-    go (yes z) = z
-    go (no h) = let r = sym (settle-refusal t ms) ∙ e in rw (ne-eqb (refusalOf t 0) 0 h) at r
-
+-- terms that Settle accepts with some marks it refuses with others by the marks alone
 by-the-marks : (t : Terms) (ms ns : List ℕ) → settleOf t ms .refusal ≡ 0 → settleOf t ns .refusal ≡ marksOf (t .term) ns .refusal
-unfolding settleRefusal
-by-the-marks t ms ns e = settle-refusal t ns ∙ rw (eq-eqb (refusalOf t 0) 0 (accepted-terms t ms e))
+by-the-marks t ms ns e = settle-refusal t ns ∙ refused-by-marks t ns (terms-pass t ms (sym (settle-refusal t ms) ∙ e))
 
 module _ (c : Contract) (m : ℕ) where
   -- the marks with the new one
@@ -69,7 +56,7 @@ module _ (c : Contract) (m : ℕ) where
         → postRefusal c m ≡ stepBy oneMore (marksOf (c .terms .term) (usedMarks c)) m .refusal
     mark-refused b h =
         let n = used-length b in
-        let few = not-bad c b .few in
+        let most = not-bad c b .few in
         by-marks b
         ∙ ap (λ (r : Reading). r .refusal)
         (sym (marks-last (c .terms .term) (usedMarks c) m (omega arith) (omega arith)))
@@ -81,19 +68,17 @@ module _ (c : Contract) (m : ℕ) where
       pub room : c .count < 240
 
     pub taken : postRefusal c m ≡ 0 → Taken
-    taken z = go (badRecord c) refl
-      where
-        go : (b : Bool) → badRecord c ≡ b → Taken
-        go true b = let no : ⊥ = omega (arith, bad-refused b) in absurd no
-        go false b =
-            let ok = not-bad c b .settled in
-            let few = marks-lawful (c .terms .term) more (sym (by-marks b) ∙ z) .few in
-            let high = accepted-facts (c .terms) 0 (accepted-terms (c .terms) (usedMarks c) ok) .term-high in
-            record {
-              good = b;
-              accepted = sym (good-refused b) ∙ z;
-              room = omega (arith, length-last (usedMarks c) m, used-length b);
-            }
+    taken z =
+        by-test (badRecord c)
+        (λ b. absurd (let no : ⊥ = omega (arith, bad-refused b) in no))
+        (λ b.
+        let ok = sym (good-refused b) ∙ z in
+        record {
+          good = b;
+          accepted = ok;
+          room =
+              omega (arith, few (c .terms) more (sym (settle-refusal (c .terms) more) ∙ ok), length-last (usedMarks c) m, used-length b);
+        })
 
 -- What posting answers and leaves.
 

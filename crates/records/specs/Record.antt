@@ -9,7 +9,7 @@ use Rattle.common.specs.Choice.{pick}
 use Rattle.money.specs.Money.{pension}
 use Rattle.settlement.specs.Settle.{SettleNumbers, settleOf}
 use Rattle.records.specs.declared.Contract.{Contract}
-use Rattle.records.specs.declared.Examined.{Examined}
+use Rattle.records.specs.declared.RecordCheck.{RecordCheck}
 
 -- Post a month: the marks of a record that its count says are there
 abbrev pub usedMarks : Contract → List ℕ
@@ -34,5 +34,5 @@ badRecord c =
     not (eqb (settledRecord c .refusal) 0) || (ltb 240 (c .count) || not (allZero (unusedMarks c)))
 
 -- what the check of a record answers: whether it is bad, and the credit that Settle gives where it is not
-unfoldable pub examinedOf : Contract → Examined
-examinedOf c = record { bad = badRecord c; credit = pension (pick (badRecord c) 0 (settledRecord c .credit)) }
+unfoldable pub checkOf : Contract → RecordCheck
+checkOf c = record { bad = badRecord c; credit = pension (pick (badRecord c) 0 (settledRecord c .credit)) }

@@ -5,7 +5,7 @@ ghost use lib.ListN.{length};
 ghost use mathlib.Core.Bool.{true};
 ghost use Prim.Native.Nat.{_*_};
 ghost use Rattle.money.specs.Money.{pension};
-ghost use Rattle.records.specs.Record.{allZero, examinedOf};
+ghost use Rattle.records.specs.Record.{allZero, checkOf};
 ghost use Rattle.records.specs.Post.{postRefusal, placeOf, postOf, postedRecord, Decided};
 ghost use Rattle.records.specs.Total.{refusedWith, openingOf, addOf, memberTotalOf};
 use election::Terms;
@@ -20,7 +20,7 @@ pub struct Contract {
 }
 
 // Whether a record is bad, and its credit where it is not.
-pub struct Examined {
+pub struct RecordCheck {
     pub bad: bool,
     pub credit: PensionPence,
 }
@@ -68,18 +68,18 @@ fn all_zero(marks: &[u8]) -> bool
     true
 }
 
-fn bad_record() -> Examined
+fn bad_record() -> RecordCheck
     ensures { λ r. ⌜ r ≡ record { bad = true; credit = pension 0 } ⌝ }
 {
-    Examined {
+    RecordCheck {
         bad: true,
         credit: PensionPence::none(),
     }
 }
 
 // The check of a record that posting and the total both make.
-pub fn examine(c: Contract) -> Examined
-    ensures { λ r. ⌜ r ≡ examinedOf c ⌝ }
+pub fn check_record(c: Contract) -> RecordCheck
+    ensures { λ r. ⌜ r ≡ checkOf c ⌝ }
 {
     let count = c.count;
     let marks = c.marks;
@@ -91,7 +91,7 @@ pub fn examine(c: Contract) -> Examined
     }
     let terms = c.terms;
     match settlement::settle(terms, &marks[..count]) {
-        Settlement::Refused { refusal, place: _ } => Examined {
+        Settlement::Refused { refusal, place: _ } => RecordCheck {
             bad: refusal != 0,
             credit: PensionPence::none(),
         },
@@ -100,7 +100,7 @@ pub fn examine(c: Contract) -> Examined
             status: _,
             credit,
             refund: _,
-        } => Examined {
+        } => RecordCheck {
             bad: false,
             credit,
         },
@@ -111,8 +111,8 @@ pub fn examine(c: Contract) -> Examined
 fn refuse_post(c: Contract, mark: u8) -> u32
     ensures { λ r. ⌜ r ≡ postRefusal c mark ⌝ }
 {
-    let examined = examine(c);
-    if examined.bad {
+    let check = check_record(c);
+    if check.bad {
         return 13;
     }
     let terms = c.terms;
@@ -212,12 +212,12 @@ fn add(t: Tally, c: Contract, index: usize) -> Tally
     requires { ⌜ t .total .credit .0 ≤ 64 * 650000 ⌝ }
     ensures { λ r. ⌜ r ≡ addOf t c index ⌝ }
 {
-    let examined = examine(c);
-    if examined.bad {
+    let check = check_record(c);
+    if check.bad {
         return refused(13, index);
     }
     let sum = t.total.credit;
-    let credit = sum.plus(examined.credit);
+    let credit = sum.plus(check.credit);
     Tally {
         end: t.end,
         total: Total {

@@ -5,15 +5,15 @@ use Prim.Native.Nat.{ℕ, _≤_}
 use native.Mathlib.Omega.{arith}
 use borrow.Author.Needs.{needs}
 use Rattle.money.specs.declared.PensionPence.{PensionPence}
-use Rattle.settlement.proofs.Laws.{settle-bounds}
+use Rattle.settlement.proofs.Bounds.{settle-bounds}
 use Rattle.records.specs.Record.{usedMarks, settledRecord}
 use Rattle.records.specs.Total.{addOf}
-use Rattle.records.proofs.Bad.{examined-bad, examined-credit}
+use Rattle.records.proofs.Bad.{check-bad, check-credit}
 use Rattle.records.proofs.add.Statement.{statement}
 use Rattle.records.proofs.add.Tie as tie
 
-examine-requires : tie.Need-examine-requires
-examine-requires c κs = search needs
+check-record-requires : tie.Need-check-record-requires
+check-record-requires c κs = search needs
 
 refused-requires : tie.Need-refused-requires
 refused-requires c κs = search needs
@@ -21,24 +21,24 @@ refused-requires c κs = search needs
 returns : tie.Need-returns
 unfolding addOf
 returns c =
-    let bad = sym (examined-bad _ (c .before .before .examine .ensures)) ∙ c .before .if1 .taken in
+    let bad = sym (check-bad _ (c .before .before .check-record .ensures)) ∙ c .before .if1 .taken in
     rw bad (c .refused .ensures)
 
 plus-requires : tie.Need-plus-requires
 plus-requires c κs =
     let start = c .before .before .before in
-    let e = c .before .before .examine .ensures in
-    let credit = ap (λ (k : PensionPence). k .0) (examined-credit (start .args .c) e (sym (examined-bad (start .args .c) e) ∙ c .before .if1 .left)) in
+    let e = c .before .before .check-record .ensures in
+    let credit = ap (λ (k : PensionPence). k .0) (check-credit (start .args .c) e (sym (check-bad (start .args .c) e) ∙ c .before .if1 .left)) in
     omega (arith, credit, settle-bounds (start .args .c .terms) (usedMarks (start .args .c)), start .pre)
 
 returns-2 : tie.Need-returns-2
 unfolding addOf
 returns-2 c =
     let start = c .before .before .before .before in
-    let e = c .before .before .before .examine .ensures in
-    let good = sym (examined-bad (start .args .c) e) ∙ c .before .before .if1 .left in
-    let credit = examined-credit (start .args .c) e good in
+    let e = c .before .before .before .check-record .ensures in
+    let good = sym (check-bad (start .args .c) e) ∙ c .before .before .if1 .left in
+    let credit = check-credit (start .args .c) e good in
     rw (good, c .plus .ensures, credit)
 
 pub add-spec : {M : Type 1} → statement M
-add-spec = tie.close (tie.spec examine-requires refused-requires returns plus-requires returns-2)
+add-spec = tie.close (tie.spec check-record-requires refused-requires returns plus-requires returns-2)

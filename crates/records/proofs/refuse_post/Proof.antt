@@ -7,17 +7,17 @@ use borrow.Author.Needs.{needs}
 use lib.ListN.{length, take}
 use Rattle.marks.specs.Reading.{oneMore, stepBy}
 use Rattle.marks.specs.declared.Reading.{Reading}
-use Rattle.records.proofs.Bad.{Good, not-bad, examined-bad}
+use Rattle.records.proofs.Bad.{Good, not-bad, check-bad}
 use Rattle.records.proofs.Cells.{marks-length}
 use Rattle.records.proofs.Posting.{bad-refused, used-length, over-refused, mark-refused}
 use Rattle.records.proofs.refuse_post.Statement.{statement}
 use Rattle.records.proofs.refuse_post.Tie as tie
 
-examine-requires : tie.Need-examine-requires
-examine-requires c κs = search needs
+check-record-requires : tie.Need-check-record-requires
+check-record-requires c κs = search needs
 
 returns : tie.Need-returns
-returns c = sym (bad-refused _ _ (sym (examined-bad _ (c .before .examine .ensures)) ∙ c .if1 .taken))
+returns c = sym (bad-refused _ _ (sym (check-bad _ (c .before .check-record .ensures)) ∙ c .if1 .taken))
 
 cast-if2 : tie.Need-cast-if2
 cast-if2 c = search needs
@@ -30,13 +30,13 @@ returns-2 c =
     let d = c .before .before .before in
     let start = d .before .before in
     sym (over-refused _ _ (marks-length (start .args .c) (start .good .0))
-    (sym (examined-bad _ (d .before .examine .ensures)) ∙ d .if1 .left) (c .if2 .taken))
+    (sym (check-bad _ (d .before .check-record .ensures)) ∙ d .if1 .left) (c .if2 .taken))
 
 array-share-prefix-marks : tie.Need-array-share-prefix-marks
 array-share-prefix-marks c =
     let d = c .before .before .before in
     let start = d .before .before in
-    let good = not-bad (start .args .c) (sym (examined-bad _ (d .before .examine .ensures)) ∙ d .if1 .left) in
+    let good = not-bad (start .args .c) (sym (check-bad _ (d .before .check-record .ensures)) ∙ d .if1 .left) in
     omega (arith, good .few, marks-length (start .args .c) (start .good .0))
 
 slice-aggregate-read-marks : tie.Need-slice-aggregate-read-marks
@@ -44,7 +44,7 @@ slice-aggregate-read-marks c =
     let d = c .before .before .before .before in
     let start = d .before .before in
     sym (used-length (start .args .c) (start .args .mark) (marks-length (start .args .c) (start .good .0))
-    (sym (examined-bad _ (d .before .examine .ensures)) ∙ d .if1 .left))
+    (sym (check-bad _ (d .before .check-record .ensures)) ∙ d .if1 .left))
 
 read-marks-requires : tie.Need-read-marks-requires
 read-marks-requires c κs = search needs
@@ -59,13 +59,13 @@ returns-3 c =
     ap (λ (r : Reading). r .refusal) (c .step .ensures)
     ∙ ap (λ (r : Reading). stepBy oneMore r (start .args .mark) .refusal) (c .before .read-marks .ensures)
     ∙ sym (mark-refused (start .args .c) (start .args .mark) (marks-length (start .args .c) (start .good .0))
-    (sym (examined-bad _ (d .before .examine .ensures)) ∙ d .if1 .left) (c .before .before .before .if2 .left))
+    (sym (check-bad _ (d .before .check-record .ensures)) ∙ d .if1 .left) (c .before .before .before .if2 .left))
 
 pub refuse-post-spec : {M : Type 1} → statement M
 refuse-post-spec =
     tie.close
     (tie.spec
-    examine-requires
+    check-record-requires
     returns
     cast-if2
     mul-if2

@@ -1,4 +1,4 @@
--- `records::examine` meets its contract: the tests in turn, then Settle of the marks in use.
+-- `records::check_record` meets its contract: the tests in turn, then Settle of the marks in use.
 -- Assumes nothing.
 use mathlib.Core.Bool.{Bool, true, false}
 use mathlib.Core.List.{List}
@@ -12,10 +12,10 @@ use lib.Seq.{length-take-le, take-all}
 use Rattle.settlement.specs.Settle.{SettleNumbers, numbersOf}
 use Rattle.records.specs.declared.Contract.{Contract}
 use Rattle.records.specs.Record.{unusedMarks, allZero}
-use Rattle.records.proofs.Bad.{count-bad, unused-bad, bad-examined, good-examined, told-examined}
+use Rattle.records.proofs.Bad.{count-bad, unused-bad, bad-check, good-check, told-check}
 use Rattle.records.proofs.Cells.{Held, marks-length}
-use Rattle.records.proofs.examine.Statement.{statement}
-use Rattle.records.proofs.examine.Tie as tie
+use Rattle.records.proofs.check_record.Statement.{statement}
+use Rattle.records.proofs.check_record.Tie as tie
 
 -- the marks from the count on are those that are not in use
 unused-zero : (c : Contract) → Held c → {z : Bool} → z ≡ allZero (take (240 - c .count) (unusedMarks c)) → allZero (unusedMarks c) ≡ z
@@ -28,7 +28,7 @@ bad-record-requires : tie.Need-bad-record-requires
 bad-record-requires c κs = search needs
 
 returns : tie.Need-returns
-returns c = c .bad-record .ensures ∙ bad-examined _ (count-bad _ (c .before .if1 .taken))
+returns c = c .bad-record .ensures ∙ bad-check _ (count-bad _ (c .before .if1 .taken))
 
 part-all-zero-start : tie.Need-part-all-zero-start
 part-all-zero-start c = search needs
@@ -48,7 +48,7 @@ returns-2 : tie.Need-returns-2
 returns-2 c =
     let start = c .before .before .before .before .before .before .before in
     c .bad-record2 .ensures
-    ∙ bad-examined (start .args .c) (unused-bad (start .args .c) (unused-zero (start .args .c) (start .good .0) (c .before .before .all-zero .ensures) ∙ not-true _ (c .before .if2 .taken)))
+    ∙ bad-check (start .args .c) (unused-bad (start .args .c) (unused-zero (start .args .c) (start .good .0) (c .before .before .all-zero .ensures) ∙ not-true _ (c .before .if2 .taken)))
 
 array-share-prefix-marks : tie.Need-array-share-prefix-marks
 array-share-prefix-marks c =
@@ -78,7 +78,7 @@ returns-3 c =
     let start = d .before .before .before .before .before .before in
     let r = c .before .before .refusal .given in
     let told = sym (ap numbersOf (r .1)) ∙ c .before .before .before .before .settle .ensures .0 in
-    told-examined (start .args .c) (r .0 .0) _ (d .before .before .before .before .if1 .left)
+    told-check (start .args .c) (r .0 .0) _ (d .before .before .before .before .if1 .left)
     (unused-zero (start .args .c) (start .good .0) (d .before .all-zero .ensures) ∙ not-false _ (d .if2 .left))
     (ap (λ (n : SettleNumbers). n .refusal) told)
     (ap (λ (n : SettleNumbers). n .credit) told)
@@ -90,7 +90,7 @@ returns-4 c =
     let start = d .before .before .before .before .before .before in
     let r = c .before .credit .given in
     let told = sym (ap numbersOf (r .1)) ∙ c .before .before .before .settle .ensures .0 in
-    good-examined (start .args .c)
+    good-check (start .args .c)
     (record {
       settled = sym (ap (λ (n : SettleNumbers). n .refusal) told);
       few = d .before .before .before .before .if1 .left;
@@ -99,8 +99,8 @@ returns-4 c =
     _
     (ap (λ (n : SettleNumbers). n .credit) told)
 
-pub examine-spec : {M : Type 1} → statement M
-examine-spec =
+pub check-record-spec : {M : Type 1} → statement M
+check-record-spec =
     tie.close
     (tie.spec
     bad-record-requires
