@@ -4,3 +4,4 @@ pub mod Cells
 pub mod Posting
 pub mod Element
 pub mod Adding
+pub mod History

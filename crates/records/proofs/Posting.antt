@@ -35,7 +35,7 @@ module _ (c : Contract) (m : ℕ) where
   unfolding postRefusal
   bad-refused b = rw b
 
-  good-refused : badRecord c ≡ false → postRefusal c m ≡ settleOf (c .terms) more .refusal
+  pub good-refused : badRecord c ≡ false → postRefusal c m ≡ settleOf (c .terms) more .refusal
   unfolding postRefusal
   good-refused b = rw b
 
