@@ -8,6 +8,8 @@ ghost use Rattle.money.specs.Money.{pension};
 ghost use Rattle.records.specs.Record.{allZero, checkOf};
 ghost use Rattle.records.specs.Post.{postRefusal, placeOf, postOf, postedRecord, Decided};
 ghost use Rattle.records.specs.Total.{refusedWith, openingOf, addOf, memberTotalOf};
+pub mod by_value;
+
 use election::Terms;
 use money::PensionPence;
 use settlement::Settlement;
