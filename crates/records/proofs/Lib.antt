@@ -5,3 +5,4 @@ pub mod Posting
 pub mod Element
 pub mod Adding
 pub mod History
+pub mod First
