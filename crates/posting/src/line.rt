@@ -1,18 +1,11 @@
-// A line of output: a name, and numbers that end at given columns.
+// A line of output: numbers that end at given columns.
 pub struct Line {
-    pub bytes: [u8; 68],
+    pub bytes: [u8; 60],
 }
 
-pub fn named(name: &[u8]) -> Line {
-    let mut bytes = [b' '; 68];
-    let mut i = 0;
-    while i < name.len() {
-        if i < 40 {
-            bytes[i] = name[i];
-        }
-        i += 1;
-    }
-    bytes[67] = b'\n';
+pub fn blank() -> Line {
+    let mut bytes = [b' '; 60];
+    bytes[59] = b'\n';
     Line { bytes }
 }
 
@@ -23,7 +16,7 @@ pub fn number(l: Line, end: usize, value: u64) -> Line {
     let mut rest = value;
     while 0 < at {
         at -= 1;
-        if at < 67 {
+        if at < 59 {
             bytes[at] = digit(rest);
         }
         rest = rest / 10;
@@ -41,4 +34,8 @@ fn digit(n: u64) -> u8 {
 pub fn write(l: Line) {
     let bytes = l.bytes;
     io::write_all(libc::STDOUT_FILENO, &bytes);
+}
+
+pub fn write_text(text: &[u8]) {
+    io::write_all(libc::STDOUT_FILENO, text);
 }

@@ -66,17 +66,6 @@ fn forged(terms: Terms, at: usize, mark: u8, count: usize) -> Contract {
     }
 }
 
-// Nothing posted yet.
-fn begin(contract: Contract) -> Outcome {
-    Outcome {
-        posted: Posted {
-            refusal: 0,
-            place: 0,
-        },
-        contract,
-    }
-}
-
 // A mark posted a number of times; the answer is that to the last posting.
 fn times(o: Outcome, mark: u8, n: usize) -> Outcome {
     let mut out = o;
@@ -89,97 +78,143 @@ fn times(o: Outcome, mark: u8, n: usize) -> Outcome {
     out
 }
 
-// The answer, then the record as it is left: its count, 1 for a bad one, its credit.
-fn show(name: &[u8], o: Outcome) {
+// Paid months, then missed ones, then another mark a number of times, posted into a record.
+fn post_runs(contract: Contract, paid: usize, missed: usize, mark: u8, n: usize) -> Outcome {
+    let posted = Posted {
+        refusal: 0,
+        place: 0,
+    };
+    times(times(times(Outcome { posted, contract }, 1, paid), 0, missed), mark, n)
+}
+
+// The answer to the last posting, then the record as it is left: its count, 1 for a bad one, its credit.
+fn show(l: line::Line, o: Outcome) {
     let posted = o.posted;
-    let c = o.contract;
-    let check = records::check_record(c);
+    let left = o.contract;
+    let check = records::check_record(left);
     let mut bad = 0;
     if check.bad {
         bad = 1;
     }
-    let mut l = line::named(name);
-    l = line::number(l, 45, posted.refusal as u64);
-    l = line::number(l, 50, posted.place as u64);
-    l = line::number(l, 56, c.count as u64);
-    l = line::number(l, 59, bad);
-    l = line::number(l, 67, check.credit.0);
+    let mut out = line::number(l, 35, posted.refusal as u64);
+    out = line::number(out, 41, posted.place as u64);
+    out = line::number(out, 47, left.count as u64);
+    out = line::number(out, 51, bad);
+    out = line::number(out, 59, check.credit.0);
+    line::write(out);
+}
+
+fn history(contract: Contract, paid: usize, missed: usize, mark: u8, n: usize) {
+    let mut l = line::number(line::blank(), 6, paid as u64);
+    l = line::number(l, 13, missed as u64);
+    l = line::number(l, 19, mark as u64);
+    l = line::number(l, 25, n as u64);
+    show(l, post_runs(contract, paid, missed, mark, n));
+}
+
+fn histories(c: Contract, lump: Contract) {
+    line::write_text(b"  paid missed  mark times   refusal place count bad  credit\n");
+    // none, some, a gap of eleven, resumed
+    history(c, 0, 0, 1, 0);
+    history(c, 5, 0, 1, 0);
+    history(c, 5, 11, 1, 0);
+    history(c, 5, 11, 1, 1);
+    history(c, 18, 4, 1, 6);
+    // twelve missed: nothing paid after them, but missed or ended still
+    history(c, 5, 12, 1, 0);
+    history(c, 5, 12, 1, 1);
+    history(c, 5, 12, 0, 1);
+    history(c, 5, 12, 2, 1);
+    // the first month missed, or ended
+    history(c, 0, 1, 1, 0);
+    history(c, 0, 0, 2, 1);
+    // values above 2
+    history(c, 0, 0, 3, 1);
+    history(c, 5, 0, 3, 1);
+    history(c, 5, 0, 255, 1);
+    // ended
+    history(c, 11, 0, 2, 1);
+    history(c, 12, 0, 2, 1);
+    history(c, 12, 0, 2, 2);
+    // full term, and one more
+    history(c, 60, 0, 1, 0);
+    history(c, 60, 0, 1, 1);
+    history(c, 60, 0, 3, 1);
+    // lump sum
+    history(lump, 0, 0, 1, 0);
+    history(lump, 1, 0, 1, 0);
+}
+
+fn after_the_end(c: Contract) {
+    let out = post_runs(c, 12, 0, 2, 1);
+    let ended = out.contract;
+    line::write_text(b"posted after 12 paid and the end\n");
+    history(ended, 1, 0, 1, 0);
+    history(ended, 0, 1, 1, 0);
+    history(ended, 0, 0, 2, 1);
+    history(ended, 0, 0, 3, 1);
+}
+
+// A record with one mark and its count set from outside, into which a paid month is then posted.
+fn outside(terms: Terms, at: usize, mark: u8, count: usize) {
+    let mut l = line::number(line::blank(), 6, at as u64);
+    l = line::number(l, 12, mark as u64);
+    l = line::number(l, 19, count as u64);
+    show(l, post_runs(forged(terms, at, mark, count), 1, 0, 1, 0));
+}
+
+fn outside_records() {
+    line::write_text(b"    at  mark  count         refusal place count bad  credit\n");
+    outside(monthly(), 0, 1, 1);
+    outside(monthly(), 0, 1, 0);
+    outside(monthly(), 239, 1, 0);
+    outside(monthly(), 0, 0, 1);
+    outside(monthly(), 0, 9, 1);
+    outside(monthly(), 0, 1, 61);
+    outside(monthly(), 0, 1, 240);
+    outside(monthly(), 0, 1, 241);
+    outside(monthly(), 0, 1, 99999);
+    outside(wrong(), 0, 0, 0);
+}
+
+// The total over the first n records.
+fn total(list: [Contract; 65], n: usize) {
+    let t = records::by_value::total_of_first(list, n);
+    let mut l = line::number(line::blank(), 7, n as u64);
+    l = line::number(l, 35, t.refusal as u64);
+    l = line::number(l, 41, t.index as u64);
+    l = line::number(l, 59, t.credit.0);
     line::write(l);
 }
 
-// The answer to a total over the first n records: refusal, index and total.
-fn show_total(name: &[u8], records: [Contract; 65], n: usize) {
-    let t = records::by_value::total_of_first(records, n);
-    let mut l = line::named(name);
-    l = line::number(l, 45, t.refusal as u64);
-    l = line::number(l, 50, t.index as u64);
-    l = line::number(l, 67, t.credit.0);
-    line::write(l);
-}
-
-fn histories() {
-    let new = begin(fresh(monthly()));
-    show(b"nothing posted", new);
-    show(b"5 paid", times(new, 1, 5));
-    let eleven = times(times(new, 1, 5), 0, 11);
-    show(b"5 paid, 11 missed", eleven);
-    show(b"5 paid, 11 missed, resumed", times(eleven, 1, 1));
-    let twelve = times(eleven, 0, 1);
-    show(b"5 paid, 12 missed", twelve);
-    show(b"5 paid, 12 missed, then paid", times(twelve, 1, 1));
-    show(b"18 paid, 4 missed, 6 paid", times(times(times(new, 1, 18), 0, 4), 1, 6));
-    show(b"11 paid, ended", times(times(new, 1, 11), 2, 1));
-    let ended = times(times(new, 1, 12), 2, 1);
-    show(b"12 paid, ended", ended);
-    show(b"12 paid, ended, then paid", times(ended, 1, 1));
-    show(b"first month missed", times(new, 0, 1));
-    show(b"first month ended", times(new, 2, 1));
-    show(b"5 paid, then mark 3", times(times(new, 1, 5), 3, 1));
-    show(b"5 paid, then mark 255", times(times(new, 1, 5), 255, 1));
-    let full = times(new, 1, 60);
-    show(b"60 paid", full);
-    show(b"60 paid, then paid", times(full, 1, 1));
-    show(b"60 paid, then mark 3", times(full, 3, 1));
-    show(b"lump sum", begin(fresh(lump_sum())));
-    show(b"lump sum, then paid", times(begin(fresh(lump_sum())), 1, 1));
-}
-
-fn bad_records() {
-    show(b"wrong amount, then paid", times(begin(fresh(wrong())), 1, 1));
-    show(b"count 241, then paid", times(begin(forged(monthly(), 0, 1, 241)), 1, 1));
-    show(b"count 99,999, then paid", times(begin(forged(monthly(), 0, 1, 99999)), 1, 1));
-    show(b"unused mark 1, then paid", times(begin(forged(monthly(), 1, 1, 0)), 1, 1));
-    show(b"last unused mark 1, then paid", times(begin(forged(monthly(), 239, 1, 0)), 1, 1));
-    show(b"first mark 0, then paid", times(begin(forged(monthly(), 0, 0, 1)), 1, 1));
-    show(b"bad mark 9, then mark 9", times(begin(forged(monthly(), 0, 9, 1)), 9, 1));
-    show(b"61 marks on 5 years, then paid", times(begin(forged(monthly(), 0, 1, 61)), 1, 1));
-    show(b"good record made outside, then paid", times(begin(forged(monthly(), 0, 1, 1)), 1, 1));
-}
-
-fn totals() {
-    let lump = fresh(lump_sum());
-    let paid = times(begin(fresh(monthly())), 1, 18);
-    let bad = forged(monthly(), 1, 1, 0);
+fn totals(lump: Contract, paid: Contract, bad: Contract) {
     let mut list = [lump; 65];
-    show_total(b"total of none", list, 0);
-    show_total(b"total of 1", list, 1);
-    show_total(b"total of 64", list, 64);
-    show_total(b"total of 65", list, 65);
-    let c = paid.contract;
-    list[1] = c;
-    show_total(b"total of 2, one by the month", list, 2);
+    line::write_text(b"records                     refusal index             total\n");
+    total(list, 0);
+    total(list, 1);
+    total(list, 64);
+    total(list, 65);
+    list[1] = paid;
+    total(list, 2);
+    // one bad at 3
     list[3] = bad;
-    show_total(b"total of 3, before a bad one", list, 3);
-    show_total(b"total of 4, the last bad", list, 4);
-    list[63] = bad;
-    show_total(b"total of 64, two bad", list, 64);
+    total(list, 3);
+    total(list, 4);
+    total(list, 64);
+    total(list, 65);
+    // the first bad
     list[0] = bad;
-    show_total(b"total of 64, the first bad", list, 64);
-    show_total(b"total of 65, some bad", list, 65);
+    total(list, 64);
+    total(list, 0);
 }
 
 fn main() {
-    histories();
-    bad_records();
-    totals();
+    let c = fresh(monthly());
+    let lump = fresh(lump_sum());
+    let out = post_runs(c, 18, 0, 1, 0);
+    let paid = out.contract;
+    histories(c, lump);
+    after_the_end(c);
+    outside_records();
+    totals(lump, paid, forged(monthly(), 1, 1, 0));
 }
