@@ -2,9 +2,9 @@
 mod line;
 
 use election::Terms;
-use records::by_value::Outcome;
 use records::Contract;
 use records::Posted;
+use records::by_value::Outcome;
 
 // £1,000 by monthly payments for 5 years, from age 50, with dependant's pension, at pension age 65.
 fn monthly() -> Terms {
@@ -84,7 +84,11 @@ fn post_runs(contract: Contract, paid: usize, missed: usize, mark: u8, n: usize)
         refusal: 0,
         place: 0,
     };
-    times(times(times(Outcome { posted, contract }, 1, paid), 0, missed), mark, n)
+    times(
+        times(times(Outcome { posted, contract }, 1, paid), 0, missed),
+        mark,
+        n,
+    )
 }
 
 // The answer to the last posting, then the record as it is left: its count, 1 for a bad one, its credit.

@@ -64,10 +64,13 @@ array-set ms vs i m l p =
     stored
   where
     stored : Is (Array u8 240) (same (set ms i m)) (vstruct (ofList (set (p .0) i (vint w8 m))) ∷ [])
-    stored =
-        (set (p .0) i (vint w8 m),
-        ((refl, length-map (set ms i m) (λ (x : ℕ). x) ∙ length-set ms i m ∙ array-length ms vs p),
-        bytes-set ms (p .0) i m l (p .1 .1)))
+    stored = (
+      set (p .0) i (vint w8 m),
+      (
+        (refl, length-map (set ms i m) (λ (x : ℕ). x) ∙ length-set ms i m ∙ array-length ms vs p),
+        bytes-set ms (p .0) i m l (p .1 .1),
+      ),
+    )
 
 -- the record with one mark and the count written is one that memory can hold
 pub written-held : (c : Contract) (i m n : ℕ) → m < 2 ^ 8 → n < 2 ^ 64 → Held c → Held (written c i m n)

@@ -121,9 +121,11 @@ unfolding NoneRefused postOf
 postable c [] full good e = tt
 postable c (m ∷ ms) full good e =
     let again = rw (← append-snoc) at e in
-    let z = good-refused c m good ∙ accepted-first (c .terms) (usedMarks c ++ (m ∷ [])) ms again in
-    (z, postable (postedRecord c m) ms (posted-full c m full z) (posted-good c m full z)
-    (rw (posted-terms c m full z, posted-marks c m full z) again))
+    let z = good-refused c m good ∙ accepted-first (c .terms) (usedMarks c ++ (m ∷ [])) ms again in (
+      z,
+      postable (postedRecord c m) ms (posted-full c m full z) (posted-good c m full z)
+          (rw (posted-terms c m full z, posted-marks c m full z) again),
+    )
 
 pub accepted-posted : (t : Terms) (ms : List ℕ) → settleOf t ms .refusal ≡ 0 → NoneRefused (freshRecord t) ms
 unfolding allZero

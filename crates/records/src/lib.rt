@@ -8,6 +8,7 @@ ghost use Rattle.money.specs.Money.{pension};
 ghost use Rattle.records.specs.Record.{allZero, checkOf};
 ghost use Rattle.records.specs.Post.{postRefusal, placeOf, postOf, postedRecord, Decided};
 ghost use Rattle.records.specs.Total.{refusedWith, openingOf, addOf, memberTotalOf};
+
 pub mod by_value;
 
 use election::Terms;
@@ -102,10 +103,7 @@ pub fn check_record(c: Contract) -> RecordCheck
             status: _,
             credit,
             refund: _,
-        } => RecordCheck {
-            bad: false,
-            credit,
-        },
+        } => RecordCheck { bad: false, credit },
     }
 }
 
