@@ -6,9 +6,9 @@ use mathlib.Core.Path.{_≡_, refl, sym, ap, _∙_}
 use Prim.Native.Nat.{ℕ, zero, suc, _+_, _-_, _/_, _%_, _<_, _≤_}
 use native.Mathlib.Nat.{add-zero}
 use native.Mathlib.Omega.{arith}
-use borrow.Author.Tests.{le-leb, lt-leb}
+use borrow.Author.Tests.{le-leb, lt-leb, leb-true}
 use lib.Dec.{leb}
-use lib.ListN.{length, take, drop, set, length-append, length-set, take-append-drop}
+use lib.ListN.{length, take, drop, set, length-append, length-drop, length-set, take-append-drop}
 use lib.Seq.{drop-cons, take-set-le, take-take, drop-set-lt, getD-set-same, append-snoc, take-at, length-take-le}
 use Rattle.common.specs.Choice.{pick}
 use Rattle.text.specs.Column.{glyphOf, frontOf, columnOf, putAt}
@@ -106,3 +106,14 @@ module _ (l : List ℕ) (at width v : ℕ) where
       ap (take (at + width)) (put-column h)
       ∙ take-at (take at l ++ columnOf width v) (drop (at + width) l) (at + width)
       (length-append (take at l) (columnOf width v) ∙ omega (arith, length-take-le at l (omega arith), length-column width v))
+
+pub put-long : (l : List ℕ) (at : ℕ) (bytes : List ℕ) → length (putAt l at bytes) ≡ length l
+unfolding putAt
+put-long l at bytes = go (leb (at + length bytes) (length l)) refl
+  where
+    go : (t : Bool) → leb (at + length bytes) (length l) ≡ t → length (pick t (take at l ++ bytes ++ drop (at + length bytes) l) l) ≡ length l
+    go true e =
+        let room : at + length bytes ≤ length l = leb-true _ _ e in
+        length-append (take at l ++ bytes) (drop (at + length bytes) l)
+        ∙ omega (arith, length-append (take at l) bytes, length-take-le at l (omega arith), length-drop (at + length bytes) l)
+    go false e = refl

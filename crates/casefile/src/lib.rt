@@ -1,0 +1,4 @@
+// The case file: each of its lines settled, as a line of the listing.
+mod line;
+
+pub use line::settle_line;
