@@ -4,10 +4,12 @@ use mathlib.Core.List.{List, [], _∷_, _++_}
 use mathlib.Core.Path.{_≡_, refl, sym, ap, _∙_}
 use Prim.Native.Nat.{ℕ, _+_, _<_, _≤_}
 use native.Mathlib.Omega.{arith}
-use lib.ListN.{length, take, set, length-set}
+use lib.ListN.{length, take, set, length-append, length-set}
 use lib.Seq.{take-all, take-suc-set}
 use Rattle.text.specs.Column.{columnOf, putAt}
-use Rattle.text.proofs.Writing.{put-long, put-more}
+use Rattle.text.proofs.Writing.{length-column, put-long, put-more}
+use Rattle.settlement.specs.Settle.{SettleNumbers}
+use Rattle.casefile.specs.Line.{listedAs}
 
 -- the first `at` bytes of a row are the text
 pub record Filled (row : List ℕ) (at : ℕ) (text : List ℕ) : Type 0 where
@@ -30,3 +32,7 @@ line-ended {row} f =
     sym (take-all 46 (set row 45 10) (omega (arith, length-set row 45 10, f .long)))
     ∙ take-suc-set row 45 10 (omega (arith, f .long))
     ∙ ap (λ (t : List ℕ). t ++ (10 ∷ [])) (f .is)
+
+pub length-listed : (election : ℕ) (n : SettleNumbers) → length (listedAs election n) ≡ 46
+unfolding listedAs
+length-listed election n = simp (length-append, length-column)

@@ -6,14 +6,18 @@ use mathlib.Core.Path.{_≡_, sym, ap, subst, _∙_}
 use Prim.Native.Nat.{ℕ, _-_, _<_, _≤_}
 use native.Mathlib.Omega.{arith}
 use borrow.Author.Tests.{lt-ltb, le-ltb}
+use lib.Dec.{ltb}
 use lib.ListN.{length, take, drop, length-drop}
 use lib.Seq.{take-all}
+use Rattle.common.specs.Choice.{pick}
 use Rattle.settlement.specs.Settle.{settleOf}
 use Rattle.casefile.specs.declared.line.Case.{Case}
+use Rattle.casefile.specs.declared.line.Fields.{Fields}
 use Rattle.casefile.specs.declared.line.Fields.the-variants.{Whole, WrongShape}
 use Rattle.casefile.specs.Shape.{fieldsOf, allDigits, marksOf}
 use Rattle.casefile.specs.Line.{listedAs, wrongShape, settledLine, lineOf}
 use Rattle.casefile.specs.Told.{MarksTold}
+use Rattle.casefile.proofs.Row.{length-listed}
 
 -- the marks are the whole rest of the line
 pub marks-told : (line marks : List ℕ) (r : Bool) → MarksTold (take (length line - 29) (drop 29 line)) marks r → MarksTold (drop 29 line) marks r
@@ -50,3 +54,21 @@ module _ (line : List ℕ) where
           in-length ∙ rw (e, sym (told .told) ∙ t)
           (ap (λ (ms : List ℕ). listedAs (c .election) (settleOf (c .terms) ms))
           (sym (told .are t) ∙ ap (λ (n : ℕ). take n marks) (length-drop 29 line)))
+
+length-wrong : length wrongShape ≡ 46
+unfolding wrongShape
+length-wrong = length-listed _ _
+
+length-choice : (t : Bool) (a b : List ℕ) → length a ≡ 46 → length b ≡ 46 → length (pick t a b) ≡ 46
+length-choice true a b p q = p
+length-choice false a b p q = q
+
+length-settled : (f : Fields) (digits : List ℕ) → length (settledLine f digits) ≡ 46
+unfolding settledLine
+length-settled WrongShape digits = length-wrong
+length-settled (Whole c) digits = length-choice (allDigits digits) _ _ (length-listed _ _) length-wrong
+
+-- a line of the listing has 46 bytes
+pub length-line : (line : List ℕ) → length (lineOf line) ≡ 46
+unfolding lineOf
+length-line line = length-choice (ltb (length line) 29) _ _ length-wrong (length-choice (ltb 285 (length line)) _ _ length-wrong (length-settled (fieldsOf line) (drop 29 line)))
