@@ -8,6 +8,11 @@ use lib.Dec.{T, ltb}
 
 pub ruleset tests = (lt-ltb, le-ltb, le-leb, lt-leb, eq-eqb, ne-eqb)
 
+-- a proof by the two answers of a test
+pub by-test : {A : Type 0} (t : Bool) → (t ≡ true → A) → (t ≡ false → A) → A
+by-test true yes-case no-case = yes-case refl
+by-test false yes-case no-case = no-case refl
+
 pub and-left : (a b : Bool) → T (a && b) → T a
 and-left true b t = tt
 and-left false b t = t
@@ -23,8 +28,5 @@ or-false false b e = (refl, e)
 
 -- two comparisons that say the same
 pub same-ltb : (a b c d : ℕ) → (a < b → c < d) → (b ≤ a → d ≤ c) → ltb a b ≡ ltb c d
-same-ltb a b c d up down = go (ltb a b) refl
-  where
-    go : (t : Bool) → ltb a b ≡ t → ltb a b ≡ ltb c d
-    go true e = e ∙ sym (lt-ltb c d (up (ltb-true a b e)))
-    go false e = e ∙ sym (le-ltb c d (down (ltb-false a b e)))
+same-ltb a b c d up down =
+    by-test (ltb a b) (λ e. e ∙ sym (lt-ltb c d (up (ltb-true a b e)))) (λ e. e ∙ sym (le-ltb c d (down (ltb-false a b e))))

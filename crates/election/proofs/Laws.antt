@@ -4,17 +4,20 @@ use mathlib.Core.Bool.{Bool, true, false, not, _&&_, _||_}
 use mathlib.Core.Path.{_≡_, refl, sym, ap, subst, _∙_}
 use Prim.Native.Nat.{ℕ, _+_, _*_, _/_, _%_, _≤_, _<_}
 use native.Mathlib.Decide.{ℕ-discrete}
+use native.Mathlib.Nat.{mul-le-mul}
 use native.Mathlib.Omega.{arith}
 use lib.Dec.{T, ltb, leb, eqb}
 use borrow.Author.Tests.{ltb-false, eqb-true, eqb-false, eq-eqb, ne-eqb, not-false}
 use Rattle.common.specs.Choice.{pick}
 use Rattle.common.proofs.Tests.{or-false}
+use Rattle.rounding.proofs.Laws.{combine-most}
 use Rattle.election.specs.declared.Terms.{Terms}
 use Rattle.election.specs.declared.Priced.{Priced}
 use Rattle.election.specs.Rate.{tableRate}
 use Rattle.election.specs.Rules.{wrongOption, wrongPensionAge, wrongTerm, wrongPayer, noLowerRate, noUpperRate, wrongAmount, aboveCap, refusalOf}
-use Rattle.election.specs.Price.{contributionOf, refused, accepted, pricedOf}
-use Rattle.election.specs.Told.{PensionAgeIn, TermsPass, Accepted}
+use Rattle.election.specs.Price.{contributionAt, contributionIn, contributionOf, refused, accepted, pricedOf}
+use Rattle.election.specs.Told.{PensionAgeIn, Accepted}
+use Rattle.election.proofs.Rates.{table-rate-most}
 
 pub pension-age-in : (t : Terms) → wrongPensionAge t ≡ false → PensionAgeIn t
 unfolding wrongPensionAge
@@ -88,3 +91,28 @@ accepted-facts t existing e =
       whole = omega arith;
       under-cap = ltb-false _ _ (r8 .0);
     }
+
+-- the greatest refusal of an election
+pub refusal-most : (t : Terms) (existing : ℕ) → refusalOf t existing ≤ 8
+unfolding refusalOf
+refusal-most t existing =
+    at-most (wrongOption t) 1 _ (omega arith)
+    (at-most (wrongPensionAge t) 2 _ (omega arith)
+    (at-most (wrongTerm t) 3 _ (omega arith)
+    (at-most (wrongPayer t) 4 _ (omega arith)
+    (at-most (noLowerRate t) 5 _ (omega arith)
+    (at-most (noUpperRate t) 6 _ (omega arith)
+    (at-most (wrongAmount t) 7 _ (omega arith) (at-most (aboveCap t existing) 8 0 (omega arith) (omega arith))))))))
+  where
+    at-most : (b : Bool) (n rest : ℕ) → n ≤ 8 → rest ≤ 8 → pick b n rest ≤ 8
+    at-most true n rest p q = p
+    at-most false n rest p q = q
+
+-- the dearest election: twenty-six times £250 at the greatest rate
+pub contribution-most : (t : Terms) (existing : ℕ) → Accepted t existing → contributionOf t ≤ 11856000
+unfolding contributionOf contributionIn contributionAt
+contribution-most t existing a =
+    combine-most (t .months) _ _ 11856000 (omega (arith, a .pension-age .months-high)) (own (t .years)) (own (t .years + 1))
+  where
+    own : (p : ℕ) → contributionIn t p ≤ 11856000
+    own p = mul-le-mul {n₂ = 26} {m₂ = 456000} (omega (arith, a .under-cap)) (table-rate-most t p)

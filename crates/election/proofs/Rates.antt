@@ -2,7 +2,7 @@
 -- Assumes nothing.
 use mathlib.Core.Bool.{Bool, true, false}
 use mathlib.Core.Path.{_≡_, refl, ap, _∙_}
-use Prim.Native.Nat.{ℕ, _≤_}
+use Prim.Native.Nat.{ℕ, _≤_, _<_}
 use native.Mathlib.Omega.{arith}
 use lib.Dec.{eqb}
 use borrow.Author.Tests.{ne-eqb}
@@ -51,3 +51,17 @@ found-upper-most t p = go (eqb (t .months) 0)
     go : (b : Bool) → foundIn t (pick b noRates (ratesAt t p)) ≤ 456000
     go true = none-most t
     go false = omega (arith, found t p, table-rate-most t p)
+
+-- of a monthly contract the rates are those of the monthly tables
+module _ (t : Terms) (p : ℕ) (monthly : 0 < t .term) where
+  pub monthly-rate : tableRate t p ≡ rateOf (t .option) p (t .age) (t .term)
+  unfolding tableRate
+  monthly-rate = rw (ne-eqb (t .term) 0 (λ z. omega arith))
+
+  pub monthly-rates : ratesAt t p ≡ rowOf (t .option) p (t .age)
+  unfolding ratesAt
+  monthly-rates = rw (ne-eqb (t .term) 0 (λ z. omega arith))
+
+  pub monthly-upper-rates : (t .months ≡ 0 → ⊥) → upperRatesAt t p ≡ rowOf (t .option) p (t .age)
+  unfolding upperRatesAt
+  monthly-upper-rates odd = rw (ne-eqb (t .months) 0 odd) monthly-rates

@@ -1,14 +1,13 @@
 -- What follows for any rounding from its being within a half, or monotone.
 -- Assumes nothing.
-use mathlib.Core.Bool.{Bool, true, false}
-use mathlib.Core.Path.{_≡_, refl, ap, _∙_}
+use mathlib.Core.Path.{_≡_, ap, _∙_}
 use Prim.Native.Nat.{ℕ, _+_, _*_, _-_, _≤_, _<_}
 use native.Mathlib.Nat.{mul-le-mul-left, lt-of-mul-lt-mul-left, le-antisymm}
 use native.Mathlib.Omega.{arith}
 use lib.Dec.{eqb}
-use borrow.Author.Tests.{eqb-false}
-use Rattle.common.specs.Choice.{pick}
-use Rattle.rounding.specs.Nearest.{nearest, blendBy, blend, combine}
+use borrow.Author.Tests.{eq-eqb, eqb-false}
+use Rattle.common.proofs.Tests.{by-test}
+use Rattle.rounding.specs.Nearest.{nearest, blendBy, blend, combineBy, combine}
 use Rattle.rounding.specs.Rounding.{WithinHalf, Monotone}
 use Rattle.rounding.proofs.HalfUp.{nearest-within-half}
 
@@ -53,6 +52,15 @@ module _ (round : ℕ → ℕ → ℕ) (half : WithinHalf round) where
       let e : (12 - 0) * lo + 0 * hi ≡ lo * 12 = omega arith in
       ap (λ (n : ℕ). round n 12) e ∙ round-whole lo 12 (omega arith)
 
+  -- two tables' figures combined lie between bounds of both, where the upper one counts with odd months only
+  pub combined-most : (m lo hi u : ℕ) → m ≤ 12 → lo ≤ u → (0 < m → hi ≤ u) → combineBy round m lo hi ≤ u
+  combined-most m lo hi u h p q =
+      by-test (eqb m 0) (λ e. rw e p) (λ e. rw e (blended-most m lo hi u h p (q (omega (arith, eqb-false m 0 e)))))
+
+  pub combined-least : (m lo hi l : ℕ) → m ≤ 12 → l ≤ lo → (0 < m → l ≤ hi) → l ≤ combineBy round m lo hi
+  combined-least m lo hi l h p q =
+      by-test (eqb m 0) (λ e. rw e p) (λ e. rw e (blended-least m lo hi l h p (q (omega (arith, eqb-false m 0 e)))))
+
 -- a blend of greater figures is at least as great
 pub blended-monotone : (round : ℕ → ℕ → ℕ) → Monotone round → (m a b c d : ℕ) → a ≤ c → b ≤ d
     → blendBy round m a b ≤ blendBy round m c d
@@ -60,20 +68,20 @@ blended-monotone round mono m a b c d p q =
     mono .keeps ((12 - m) * a + m * b) 12 ((12 - m) * c + m * d) 12 (omega arith) (omega arith)
     (omega (arith, mul-le-mul-left (12 - m) p, mul-le-mul-left m q))
 
--- two tables' figures combined are at most what both are at most
+-- the upper bounds of a blend and of combined figures, to the nearest
+pub blend-most : (m lo hi u : ℕ) → m ≤ 12 → lo ≤ u → hi ≤ u → blend m lo hi ≤ u
+unfolding blend
+blend-most = blended-most nearest nearest-within-half
+
 pub combine-most : (m lo hi u : ℕ) → m ≤ 12 → lo ≤ u → hi ≤ u → combine m lo hi ≤ u
-unfolding combine blend
-combine-most m lo hi u h p q = go (eqb m 0)
-  where
-    go : (b : Bool) → pick b lo (blendBy nearest m lo hi) ≤ u
-    go true = p
-    go false = blended-most nearest nearest-within-half m lo hi u h p q
+unfolding combine
+combine-most m lo hi u h p q = combined-most nearest nearest-within-half m lo hi u h p (λ odd. q)
 
 -- at a whole pension age the upper figure does not matter
 pub combine-upper : (m lo a b : ℕ) → ((m ≡ 0 → ⊥) → a ≡ b) → combine m lo a ≡ combine m lo b
 unfolding combine
-combine-upper m lo a b h = go (eqb m 0) refl
-  where
-    go : (t : Bool) → eqb m 0 ≡ t → pick t lo (blend m lo a) ≡ pick t lo (blend m lo b)
-    go true e = refl
-    go false e = ap (blend m lo) (h (eqb-false m 0 e))
+combine-upper m lo a b h = by-test (eqb m 0) (λ e. rw e) (λ e. ap (combineBy nearest m lo) (h (eqb-false m 0 e)))
+
+pub combine-none : (m lo hi : ℕ) → m ≡ 0 → combine m lo hi ≡ lo
+unfolding combine
+combine-none m lo hi z = rw (eq-eqb m 0 z)

@@ -16,6 +16,10 @@ blendBy round m lo hi = round ((12 - m) * lo + m * hi) 12
 unfoldable pub blend : ℕ → ℕ → ℕ → ℕ
 blend = blendBy nearest
 
--- the figures of two neighbouring tables: at a whole pension age the lower one's, with m odd months both blended
+-- the figures of two neighbouring tables, by a rounding: at a whole pension age the lower one's, with m odd months both blended
+abbrev pub combineBy : (ℕ → ℕ → ℕ) → ℕ → ℕ → ℕ → ℕ
+combineBy round m lo hi = pick (eqb m 0) lo (blendBy round m lo hi)
+
+-- the same to the nearest
 unfoldable pub combine : ℕ → ℕ → ℕ → ℕ
-combine m lo hi = pick (eqb m 0) lo (blend m lo hi)
+combine = combineBy nearest

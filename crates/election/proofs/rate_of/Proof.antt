@@ -1,7 +1,7 @@
 -- `election::rate_of` meets its contract: a lump sum has its own table.
 -- Assumes nothing.
 use borrow.Author.Needs.{needs}
-use Rattle.common.proofs.Tests.{tests}
+use borrow.Author.Tests.{eq-eqb, ne-eqb}
 use Rattle.election.specs.Rate.{foundIn}
 use Rattle.election.proofs.rate_of.Statement.{statement}
 use Rattle.election.proofs.rate_of.Tie as tie
@@ -11,14 +11,14 @@ lump-sum-rate-requires c κs = search needs
 
 returns : tie.Need-returns
 unfolding foundIn
-returns c = search (tests, ← c .lump-sum-rate .ensures)
+returns c = rw (eq-eqb _ _ (c .before .if1 .taken)) (c .lump-sum-rate .ensures)
 
 rate-in-requires : tie.Need-rate-in-requires
 rate-in-requires c κs = search needs
 
 returns-2 : tie.Need-returns-2
 unfolding foundIn
-returns-2 c = search (tests, ← c .rate-in .ensures)
+returns-2 c = rw (ne-eqb _ _ (c .before .if1 .left)) (c .rate-in .ensures)
 
 pub rate-of-spec : {M : Type 1} → statement M
 rate-of-spec = tie.close (tie.spec lump-sum-rate-requires returns rate-in-requires returns-2)

@@ -1,18 +1,18 @@
 -- `election::wrong_pension_age` meets its contract: test by test.
 -- Assumes nothing.
 use borrow.Author.Needs.{needs}
-use Rattle.common.proofs.Tests.{tests}
+use borrow.Author.Tests.{lt-ltb, le-ltb}
 use Rattle.election.specs.Rules.{wrongPensionAge}
 use Rattle.election.proofs.wrong_pension_age.Statement.{statement}
 use Rattle.election.proofs.wrong_pension_age.Tie as tie
 
 returns : tie.Need-returns
 unfolding wrongPensionAge
-returns c = search tests
+returns c = rw (lt-ltb _ _ (c .if1 .taken))
 
 returns-2 : tie.Need-returns-2
 unfolding wrongPensionAge
-returns-2 c = search tests
+returns-2 c = rw (le-ltb _ _ (c .before .before .if1 .left), lt-ltb _ _ (c .if2 .taken))
 
 mul-result : tie.Need-mul-result
 mul-result c = search needs
@@ -31,7 +31,7 @@ add-result c = search needs
 
 returns-3 : tie.Need-returns-3
 unfolding wrongPensionAge
-returns-3 c = search tests
+returns-3 c = rw (le-ltb _ _ (c .before .before .before .before .if1 .left), le-ltb _ _ (c .before .before .if2 .left))
 
 pub wrong-pension-age-spec : {M : Type 1} → statement M
 wrong-pension-age-spec =

@@ -1,0 +1,28 @@
+-- `credit::after_mark` meets its contract, test by test.
+-- Assumes nothing.
+use native.Mathlib.Omega.{arith}
+use borrow.Author.Needs.{needs}
+use Rattle.common.proofs.Tests.{tests}
+use Rattle.credit.specs.Earned.{afterMark}
+use Rattle.credit.proofs.after_mark.Statement.{statement}
+use Rattle.credit.proofs.after_mark.Tie as tie
+
+add-t8 : tie.Need-add-t8
+add-t8 c = search needs
+
+returns : tie.Need-returns
+unfolding afterMark
+returns c = record { is = search tests; next = search needs; small = omega arith }
+
+credit-at-requires : tie.Need-credit-at-requires
+credit-at-requires c κs = search needs
+
+add-month : tie.Need-add-month
+add-month c = search needs
+
+returns-2 : tie.Need-returns-2
+unfolding afterMark
+returns-2 c = record { is = search (tests, ← c .before .credit-at .ensures .is); next = search needs; small = omega arith }
+
+pub after-mark-spec : {M : Type 1} → statement M
+after-mark-spec = tie.close (tie.spec add-t8 returns credit-at-requires add-month returns-2)

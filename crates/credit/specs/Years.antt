@@ -1,0 +1,37 @@
+-- Document 01, "From rate to contribution and credit", second paragraph: what one table's contract is worth after whole years, and at
+-- any month between them. The rounding is an argument: Settle takes `nearest`.
+-- Assumes nothing.
+use mathlib.Core.List.{List}
+use Prim.Native.Nat.{ℕ, suc, _*_, _/_, _%_}
+use lib.Dec.{leb, eqb}
+use lib.ListN.{getD}
+use Rattle.common.specs.Choice.{pick}
+use Rattle.common.specs.Table.{tabulate}
+use Rattle.rounding.specs.Nearest.{blendBy}
+
+-- What one table knows of a monthly contract: its rate in pence at each term, how many times £250 are bought, the term in years.
+pub record Purchase : Type 0 where
+  pub rate : ℕ → ℕ
+  pub units : ℕ
+  pub term : ℕ
+
+-- that table's own contribution
+abbrev pub ownContribution : Purchase → ℕ
+ownContribution p = p .units * p .rate (p .term)
+
+-- £250 a year, in pence
+abbrev pub unit : ℕ
+unit = 25000
+
+-- What the contribution buys in n years, by the rate for n, rounded; nothing at the start, and nothing beyond the term.
+unfoldable pub yearCredit : (ℕ → ℕ → ℕ) → Purchase → ℕ → ℕ
+yearCredit round p n =
+    pick (eqb n 0) 0 (pick (leb n (p .term)) (round (ownContribution p * unit) (p .rate n)) 0)
+
+-- all of them as one row: the start, and a place for each year that the longest term has
+unfoldable pub yearCredits : (ℕ → ℕ → ℕ) → Purchase → List ℕ
+yearCredits round p = tabulate (yearCredit round p) 0 21
+
+-- What such a row is worth at a month: the year that was last completed and the one under way, blended by the months passed since.
+unfoldable pub monthValue : (ℕ → ℕ → ℕ) → List ℕ → ℕ → ℕ
+monthValue round years month = blendBy round (month % 12) (getD years (month / 12) 0) (getD years (suc (month / 12)) 0)

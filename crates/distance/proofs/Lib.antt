@@ -1,0 +1,10 @@
+pub mod Line
+pub mod Months
+pub mod Runs
+pub mod Near
+pub mod Denominator
+pub mod Exact
+pub mod Table
+pub mod Tables
+pub mod Distance
+pub mod Amount

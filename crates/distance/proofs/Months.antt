@@ -1,0 +1,34 @@
+-- The value at a contract month: it lies on the line through the years, and never falls.
+-- Assumes nothing.
+use mathlib.Core.Path.{_≡_, _∙_}
+use Prim.Native.Nat.{ℕ, suc, _*_, _/_, _%_, _≤_}
+use native.Mathlib.Nat.{mul-le-mul-right}
+use native.Mathlib.Omega.{arith}
+use Rattle.rounding.specs.Rounding.{WithinHalf, Monotone}
+use Rattle.rounding.proofs.Laws.{blended-none}
+use Rattle.credit.specs.Years.{Purchase, yearCredit, yearCredits, monthValue}
+use Rattle.credit.specs.Priced.{Falling}
+use Rattle.credit.proofs.Years.{row-year, year-rises}
+use Rattle.distance.proofs.Line.{line, line-rises}
+
+module _ (round : ℕ → ℕ → ℕ) (p : Purchase) (short : p .term ≤ 20) where
+  pub on-line : (i : ℕ) → monthValue round (yearCredits round p) i ≡ round (line (yearCredit round p) i) 12
+  unfolding monthValue
+  on-line i = rw (row-year round p short (i / 12), row-year round p short (suc (i / 12)))
+
+module _ (round : ℕ → ℕ → ℕ) (half : WithinHalf round) (p : Purchase) (short : p .term ≤ 20) where
+  -- with j = 0 it is year n
+  pub month-year : (n : ℕ) → monthValue round (yearCredits round p) (12 * n) ≡ yearCredit round p n
+  month-year n =
+      let q : 12 * n / 12 ≡ n = omega arith in
+      let r : 12 * n % 12 ≡ 0 = omega arith in
+      on-line round p short (12 * n) ∙ rw (q, r) (blended-none round half (yearCredit round p n) (yearCredit round p (suc n)))
+
+-- the month value never falls within the term
+pub month-rises : (round : ℕ → ℕ → ℕ) → Monotone round → (p : Purchase) → p .term ≤ 20 → Falling p
+    → (a b : ℕ) → a ≤ b → b ≤ 12 * p .term
+    → monthValue round (yearCredits round p) a ≤ monthValue round (yearCredits round p) b
+month-rises round mono p short falling a b h l =
+    rw (on-line round p short a, on-line round p short b)
+    (mono .keeps (line (yearCredit round p) a) 12 (line (yearCredit round p) b) 12 (omega arith) (omega arith)
+    (mul-le-mul-right 12 (line-rises (yearCredit round p) (p .term) (year-rises round mono p falling) a b h l)))

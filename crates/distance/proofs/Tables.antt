@@ -1,0 +1,16 @@
+-- What holds of any table that a contract counts holds of the lower one, and with odd months of the upper.
+-- Assumes nothing.
+use mathlib.Core.Path.{_≡_, refl}
+use Prim.Native.Nat.{_≤_, _<_}
+use native.Mathlib.Omega.{arith}
+use Rattle.credit.specs.Years.{Purchase}
+use Rattle.credit.specs.Priced.{Falling}
+use Rattle.distance.specs.Distance.{Contract, Sound}
+
+pub tables : (c : Contract) → Sound c → (Q : Purchase → Type 0)
+    → ((p : Purchase) → p .term ≡ c .lower .term → p .units ≡ c .lower .units → p .term ≤ 20 → Falling p → Q p)
+    → Q (c .lower) × (0 < c .odd → Q (c .upper))
+tables c sound Q each = (
+  each (c .lower) refl refl (sound .term-most) (sound .lower-falls),
+  λ odd. each (c .upper) (sound .same-term) (sound .same-units) (omega (arith, sound .same-term)) (sound .upper-falls odd),
+)

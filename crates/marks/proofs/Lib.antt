@@ -1,0 +1,9 @@
+pub mod Cases
+pub mod Lists
+pub mod Counts
+pub mod Through
+pub mod Lawful
+pub mod Steps
+pub mod Refusals
+pub mod Term
+pub mod StatusOf

@@ -1,0 +1,4 @@
+pub mod Lawful
+pub mod Counts
+pub mod Status
+pub mod Reading

@@ -1,0 +1,86 @@
+-- Demand 3 of every settlement; that a credit never passes the amount, and that a term paid in full earns just the amount.
+-- Assumes nothing.
+use mathlib.Core.Bool.{Bool, true, false}
+use mathlib.Core.List.{List, [], _∷_, _++_}
+use mathlib.Core.Logic.{⊎-elim}
+use mathlib.Core.Path.{_≡_, refl, sym, ap, subst, _∙_}
+use Prim.Native.Nat.{ℕ, suc, _+_, _*_, _/_, _≤_, _<_}
+use native.Mathlib.Nat.{le-trans}
+use native.Mathlib.Omega.{arith}
+use borrow.Author.Tests.{eq-eqb, ne-eqb}
+use lib.Dec.{eqb}
+use lib.ListN.{length, replicate}
+use Rattle.rounding.specs.Nearest.{nearest}
+use Rattle.rounding.proofs.HalfUp.{nearest-within-half, nearest-monotone}
+use Rattle.election.specs.declared.Terms.{Terms}
+use Rattle.marks.specs.Lawful.{Lawful, LawfulFor}
+use Rattle.marks.specs.Status.{statusOf}
+use Rattle.marks.proofs.StatusOf.{monthly-status}
+use Rattle.credit.specs.Runs.{paid, startsAfter, runCount}
+use Rattle.distance.proofs.Distance.{distance}
+use Rattle.distance.proofs.Amount.{credit-most, full-term}
+use Rattle.settlement.specs.Credit.{contractOf, creditOf, exactCreditOf}
+use Rattle.settlement.specs.Settle.{settleRefusal, creditAtStatus, settleOf}
+use Rattle.settlement.specs.Demand.{Demand3}
+use Rattle.settlement.proofs.Laws.{settle-settled, settle-refusal, accepted, lawful}
+use Rattle.settlement.proofs.Contract.{sound}
+
+-- marks that are all 2 hold no run
+none-after : (ms : List ℕ) → ((ys zs : List ℕ) (m : ℕ) → ms ≡ ys ++ (m ∷ zs) → m ≡ 2) → startsAfter false (paid ms) ≡ 0
+unfolding startsAfter
+none-after [] h = refl
+none-after (m ∷ ms) h =
+    rw (h [] ms m refl)
+    (none-after ms (λ ys zs n e. h (m ∷ ys) zs n (ap (λ (l : List ℕ). m ∷ l) e)))
+
+-- lawful marks with a paid one begin with a paid one
+pub first-paid : (ms : List ℕ) → Lawful ms → 1 ≤ runCount ms → (rest : List Bool) × (paid ms ≡ true ∷ rest)
+unfolding runCount startsAfter
+first-paid [] law k = absurd (omega arith)
+first-paid (m ∷ ms) law k =
+    ⊎-elim (λ one. (paid ms, rw one refl))
+    (λ two. absurd (omega (arith, ended two, k)))
+    (law .begins m ms refl)
+  where
+    ended : m ≡ 2 → startsAfter false (paid (m ∷ ms)) ≡ 0
+    ended two = rw two (none-after ms (λ ys zs n e. law .ends [] ys zs n (rw two (ap (λ (l : List ℕ). 2 ∷ l) e))))
+
+-- at a monthly contract's status other than 5 the credit is what the runs earned
+pub credit-worked : (t : Terms) (ms : List ℕ) → 0 < t .term → (statusOf (t .term) ms ≡ 5 → ⊥)
+    → creditAtStatus t ms (statusOf (t .term) ms) ≡ creditOf t ms
+unfolding creditAtStatus
+credit-worked t ms monthly other =
+    rw (ne-eqb _ 5 other, ne-eqb (statusOf (t .term) ms) 6 (λ z. omega (arith, monthly-status (t .term) ms monthly)))
+
+pub demand-3 : (t : Terms) (ms : List ℕ) → Demand3 t ms (settleOf t ms)
+unfolding creditOf exactCreditOf
+demand-3 t ms z years k other =
+    let none = sym (settle-refusal t ms) ∙ z in
+    let law = lawful t ms none in
+    let first = first-paid ms (law .lawful) k in
+    rw (settle-settled t ms none)
+    (rw (credit-worked t ms (omega arith) other)
+    (distance nearest nearest-within-half (contractOf t) (sound t (accepted t ms none) (omega arith)) ms (law .few) (first .0) (first .1)))
+
+-- a monthly contract's runs never earn more than the amount
+pub worked-most : (t : Terms) (ms : List ℕ) → settleRefusal t ms ≡ 0 → 0 < t .term → creditOf t ms ≤ t .amount * 100
+unfolding creditOf
+worked-most t ms none monthly =
+    let a = accepted t ms none in
+    omega (
+      arith,
+      credit-most nearest nearest-within-half nearest-monotone (contractOf t) (sound t a monthly) ms (lawful t ms none .few),
+      a .whole,
+    )
+
+-- twelve paid months in each year of the term earn the amount exactly
+pub full-credit : (t : Terms) (ms : List ℕ) → settleRefusal t ms ≡ 0 → 0 < t .term
+    → creditOf t (replicate (12 * t .term) 1) ≡ t .amount * 100
+unfolding creditOf
+full-credit t ms none monthly =
+    let a = accepted t ms none in
+    omega (
+      arith,
+      full-term nearest nearest-within-half (contractOf t) (sound t a monthly) monthly,
+      a .whole,
+    )

@@ -1,0 +1,4 @@
+pub mod Laws
+pub mod Contract
+pub mod Demand
+pub mod Bounds

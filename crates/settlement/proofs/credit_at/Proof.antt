@@ -1,0 +1,33 @@
+-- `settlement::credit_at` meets its contract: status by status.
+-- Assumes nothing.
+use borrow.Author.Needs.{needs}
+use borrow.Author.Tests.{eq-eqb, ne-eqb}
+use Rattle.settlement.specs.Settle.{creditAtStatus}
+use Rattle.settlement.proofs.credit_at.Statement.{statement}
+use Rattle.settlement.proofs.credit_at.Tie as tie
+
+none-requires : tie.Need-none-requires
+none-requires c κs = search needs
+
+returns : tie.Need-returns
+unfolding creditAtStatus
+returns c = rw (eq-eqb _ _ (c .before .if1 .taken)) (c .none .ensures)
+
+of-pounds-requires : tie.Need-of-pounds-requires
+of-pounds-requires c κs = search needs
+
+returns-2 : tie.Need-returns-2
+unfolding creditAtStatus
+returns-2 c = rw (ne-eqb _ _ (c .before .before .if1 .left), eq-eqb _ _ (c .before .if2 .taken)) (c .of-pounds .ensures)
+
+earned-requires : tie.Need-earned-requires
+earned-requires c κs = (c .before .before .before .pre .0 (c .if2 .left), c .before .before .before .pre .1)
+
+returns-3 : tie.Need-returns-3
+unfolding creditAtStatus
+returns-3 c = rw (ne-eqb _ _ (c .before .before .if1 .left), ne-eqb _ _ (c .before .if2 .left)) (c .earned .ensures)
+
+pub credit-at-spec : {M : Type 1} → statement M
+credit-at-spec =
+    tie.close
+    (tie.spec none-requires returns of-pounds-requires returns-2 earned-requires returns-3)

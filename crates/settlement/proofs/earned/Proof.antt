@@ -1,0 +1,99 @@
+-- `settlement::earned` meets its contract: each table's credit is worked out of its own row, then both are combined.
+-- Assumes nothing.
+use mathlib.Core.List.{List}
+use mathlib.Core.Path.{_≡_, refl, sym, ap, subst, _∙_}
+use Prim.Native.Nat.{ℕ, _+_, _*_, _/_, _≤_, _<_, _^_}
+use native.Mathlib.Nat.{mul-le-mul}
+use native.Mathlib.Omega.{arith}
+use lib.ListN.{length, getD}
+use borrow.Author.Needs.{needs}
+use Rattle.credit.proofs.Bounds.{credit-most}
+use Rattle.credit.specs.Credit.{creditOver, creditIn}
+use Rattle.credit.specs.Priced.{purchase}
+use Rattle.credit.specs.Promises.{YearCredits}
+use Rattle.credit.specs.Years.{unit}
+use Rattle.election.specs.Told.{Accepted}
+use Rattle.election.specs.declared.Terms.{Terms}
+use Rattle.money.specs.Money.{pension}
+use Rattle.money.specs.declared.PensionPence.{PensionPence}
+use Rattle.rates.specs.Rates.{rowOf}
+use Rattle.rounding.proofs.HalfUp.{nearest-within-half}
+use Rattle.rounding.proofs.Laws.{combine-none}
+use Rattle.rounding.specs.Nearest.{nearest, combine}
+use Rattle.settlement.proofs.Contract.{lower-priced, upper-priced, years-of, credit-combined}
+use Rattle.settlement.specs.Credit.{purchaseIn, creditOf}
+use Rattle.settlement.specs.Told.{Monthly}
+use Rattle.settlement.proofs.earned.Statement.{statement}
+use Rattle.settlement.proofs.earned.Tie as tie
+
+-- one table's credit, by its row
+worked : (t : Terms) (p : ℕ) (ms row : List ℕ) {years : List ℕ} {k : PensionPence} → row ≡ rowOf (t .option) p (t .age)
+    → YearCredits (purchase row (t .amount / 250) (t .term)) years → k ≡ pension (creditOver nearest years ms)
+    → k ≡ pension (creditIn nearest (purchaseIn t p) ms)
+unfolding creditIn
+worked t p ms row e y k = k ∙ rw (years-of t p row e y)
+
+small : (t : Terms) (ms row : List ℕ) {years : List ℕ} {k : PensionPence} → length ms ≤ 240 → Accepted t 0
+    → YearCredits (purchase row (t .amount / 250) (t .term)) years → k ≡ pension (creditOver nearest years ms) → k .0 < 2 ^ 32
+small t ms row {years = years} few a y k =
+    rw k
+    (omega (
+      arith,
+      credit-most nearest nearest-within-half years (t .amount / 250 * unit) (y .most) ms,
+      mul-le-mul {n₁ = length ms} {m₁ = t .amount / 250 * unit} {n₂ = 240} {m₂ = 650000} few (omega (arith, a .under-cap)),
+    ))
+
+only-table : (t : Terms) (ms : List ℕ) {k : PensionPence} → t .months ≡ 0 → k ≡ pension (creditIn nearest (purchaseIn t (t .years)) ms)
+    → k ≡ pension (creditOf t ms)
+only-table t ms whole e = e ∙ ap pension (sym (credit-combined t ms ∙ combine-none (t .months) _ _ whole))
+
+both : (t : Terms) (ms : List ℕ) {k l : PensionPence} → k ≡ pension (creditIn nearest (purchaseIn t (t .years)) ms)
+    → l ≡ pension (creditIn nearest (purchaseIn t (t .years + 1)) ms) → pension (combine (t .months) (k .0) (l .0)) ≡ pension (creditOf t ms)
+both t ms e f = rw (e, f) (ap pension (sym (credit-combined t ms)))
+
+year-credits-requires : tie.Need-year-credits-requires
+year-credits-requires c κs =
+    let m = c .before .before .pre .0 in
+    lower-priced _ (m .accepted) (m .some-years) (m .lower-is)
+
+credit-in-requires : tie.Need-credit-in-requires
+credit-in-requires c κs = search needs
+
+returns : tie.Need-returns
+returns c =
+    let t = c .before .before .before .before .before .before .args .t in
+    only-table t _ (c .if1 .taken) (worked t _ _ _ (c .before .before .before .before .before .before .pre .0 .lower-is) (c .before .before .before .year-credits .ensures) (c .before .before .credit-in .ensures))
+
+year-credits-requires-2 : tie.Need-year-credits-requires-2
+year-credits-requires-2 c κs =
+    let m = c .before .before .before .before .before .before .pre .0 in
+    upper-priced _ (m .accepted) (m .some-years) (c .if1 .left) (m .upper-is (c .if1 .left))
+
+credit-in-requires-2 : tie.Need-credit-in-requires-2
+credit-in-requires-2 c κs = search needs
+
+combine-requires : tie.Need-combine-requires
+combine-requires c κs =
+    let t = c .before .before .before .before .before .before .before .before .args .t in
+    let few = c .before .before .before .before .before .before .before .before .pre .1 in
+    (small t _ _ few (c .before .before .before .before .before .before .before .before .pre .0 .accepted) (c .before .before .before .before .before .year-credits .ensures) (c .before .before .before .before .credit-in .ensures), small t _ _ few (c .before .before .before .before .before .before .before .before .pre .0 .accepted) (c .before .year-credits2 .ensures) (c .credit-in2 .ensures))
+
+returns-2 : tie.Need-returns-2
+returns-2 c =
+    let t = c .before .before .before .before .before .before .before .before .before .args .t in
+    let m = c .before .before .before .before .before .before .before .before .before .pre .0 in
+    c .combine .ensures
+    ∙ both t _ (worked t _ _ _ (m .lower-is) (c .before .before .before .before .before .before .year-credits .ensures) (c .before .before .before .before .before .credit-in .ensures))
+    (worked t _ _ _ (m .upper-is (c .before .before .before .if1 .left)) (c .before .before .year-credits2 .ensures) (c .before .credit-in2 .ensures))
+
+pub earned-spec : {M : Type 1} → statement M
+earned-spec =
+    tie.close
+    (tie.spec
+    year-credits-requires
+    credit-in-requires
+    returns
+    year-credits-requires-2
+    credit-in-requires-2
+    combine-requires
+    returns-2)

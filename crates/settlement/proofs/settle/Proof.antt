@@ -1,0 +1,95 @@
+-- `settlement::settle` meets its contract: the numbers are those defined, and so demand 3 holds of them.
+-- Assumes nothing.
+use mathlib.Core.List.{List}
+use mathlib.Core.Path.{_≡_, refl, sym, ap, subst, _∙_}
+use Prim.Native.Nat.{ℕ, _+_, _*_, _≤_, _<_, _^_}
+use native.Mathlib.Omega.{arith}
+use lib.Dec.{eqb}
+use lib.ListN.{length}
+use borrow.Author.Needs.{needs}
+use Rattle.common.specs.Choice.{pick}
+use Rattle.election.proofs.Laws.{contribution-most}
+use Rattle.election.proofs.Rates.{monthly-rates, monthly-upper-rates}
+use Rattle.election.specs.declared.Terms.{Terms}
+use Rattle.marks.proofs.Counts.{months-most}
+use Rattle.marks.proofs.StatusOf.{not-lump}
+use Rattle.money.specs.Money.{pension, contribution}
+use Rattle.money.specs.declared.ContributionPence.{ContributionPence}
+use Rattle.money.specs.declared.PensionPence.{PensionPence}
+use Rattle.settlement.proofs.Demand.{demand-3}
+use Rattle.settlement.proofs.Laws.{accepted, few, settle-refused, settle-settled, examined-refused, examined-accepted, examined-refusal}
+use Rattle.settlement.specs.Demand.{Demand3}
+use Rattle.settlement.specs.Examine.{examinedOf}
+use Rattle.settlement.specs.Settle.{SettleNumbers, settleRefusal, creditAtStatus, refundAtStatus, refusedNumbers, settleOf}
+use Rattle.settlement.specs.Told.{Monthly}
+use Rattle.settlement.specs.declared.Examined.{Examined}
+use Rattle.settlement.proofs.settle.Statement.{statement}
+use Rattle.settlement.proofs.settle.Tie as tie
+
+-- what holds of the defined numbers holds of equal ones
+near : (t : Terms) (ms : List ℕ) {n : SettleNumbers} → n ≡ settleOf t ms → (n ≡ settleOf t ms) × Demand3 t ms n
+near t ms is = (is, subst (Demand3 t ms) (sym is) (demand-3 t ms))
+
+module _ (t : Terms) (ms : List ℕ) {e : Examined} (is : e ≡ examinedOf t ms) where
+  refusal-is : e .refusal ≡ settleRefusal t ms
+  refusal-is = ap (λ (x : Examined). x .refusal) is ∙ examined-refusal t ms
+
+  none-refused : e .refusal ≡ 0 → settleRefusal t ms ≡ 0
+  none-refused z = sym refusal-is ∙ z
+
+  refuses : (e .refusal ≡ 0 → ⊥) → refusedNumbers (e .refusal) (e .place) ≡ settleOf t ms
+  refuses some =
+      let refused : settleRefusal t ms ≡ 0 → ⊥ = λ z. some (refusal-is ∙ z) in
+      rw (is, examined-refused t ms refused, settle-refused t ms refused)
+
+  -- a contract that is no lump sum has monthly terms with their rows
+  monthly : settleRefusal t ms ≡ 0 → (e .status ≡ 6 → ⊥) → Monthly t (e .lower) (e .upper)
+  monthly none =
+      rw (is, examined-accepted t ms none)
+      (λ other.
+      let years = not-lump (t .term) ms other in
+      record {
+        accepted = accepted t ms none;
+        some-years = years;
+        lower-is = monthly-rates t (t .years) years;
+        upper-is = monthly-upper-rates t (t .years + 1) years;
+      })
+
+  small : settleRefusal t ms ≡ 0 → (e .contribution .0 < 2 ^ 32) × (e .paid ≤ 240)
+  small none =
+      rw (is, examined-accepted t ms none)
+      (omega (arith, contribution-most t 0 (accepted t ms none), months-most ms, few t ms none))
+
+  settles : settleRefusal t ms ≡ 0 → {k : PensionPence} {f : ContributionPence} → k ≡ pension (creditAtStatus t ms (e .status))
+      → f ≡ contribution (pick (eqb (e .status) 5) (e .contribution .0 * e .paid) 0)
+      → _≡_ {A = SettleNumbers}
+      (record { refusal = 0; place = 0; contribution = e .contribution .0; status = e .status; credit = k .0; refund = f .0 })
+      (settleOf t ms)
+  unfolding refundAtStatus
+  settles none credit refund = rw (credit, refund, is, examined-accepted t ms none, settle-settled t ms none)
+
+examine-requires : tie.Need-examine-requires
+examine-requires c κs = search needs
+
+returns : tie.Need-returns
+returns c = near _ _ (refuses _ _ (c .before .before .examine .ensures) (c .if1 .taken))
+
+credit-at-requires : tie.Need-credit-at-requires
+credit-at-requires c κs =
+    let e = c .before .before .before .before .before .examine .ensures in
+    let none = none-refused _ _ e (c .before .before .before .if1 .left) in
+    (monthly _ _ e none, few _ _ none)
+
+refund-at-requires : tie.Need-refund-at-requires
+refund-at-requires c κs =
+    let e = c .before .before .before .before .before .before .examine .ensures in
+    small _ _ e (none-refused _ _ e (c .before .before .before .before .if1 .left))
+
+returns-2 : tie.Need-returns-2
+returns-2 c =
+    let e = c .before .before .before .before .before .before .before .examine .ensures in
+    near _ _ (settles _ _ e (none-refused _ _ e (c .before .before .before .before .before .if1 .left)) (c .before .credit-at .ensures) (c .refund-at .ensures))
+
+pub settle-spec : {M : Type 1} → statement M
+settle-spec =
+    tie.close (tie.spec examine-requires returns credit-at-requires refund-at-requires returns-2)

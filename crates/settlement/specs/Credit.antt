@@ -1,0 +1,27 @@
+-- The credit of an election for a list of marks, and the exact credit.
+-- Assumes nothing.
+use mathlib.Core.List.{List}
+use Prim.Native.Nat.{ℕ, _+_, _/_}
+use Rattle.rounding.specs.Nearest.{nearest}
+use Rattle.rates.specs.Rates.{rateOf}
+use Rattle.election.specs.declared.Terms.{Terms}
+use Rattle.credit.specs.Years.{Purchase}
+use Rattle.distance.specs.Fraction.{Fraction}
+use Rattle.distance.specs.Distance.{Contract, creditBy, exactly}
+
+-- what the monthly table of a whole pension age knows of the election: its rate at each term for that age and option
+abbrev pub purchaseIn : Terms → ℕ → Purchase
+purchaseIn t pensionAge =
+    record { rate = rateOf (t .option) pensionAge (t .age); units = t .amount / 250; term = t .term }
+
+-- the odd months of the pension age, and its two neighbouring tables
+abbrev pub contractOf : Terms → Contract
+contractOf t = record { odd = t .months; lower = purchaseIn t (t .years); upper = purchaseIn t (t .years + 1) }
+
+-- the credit to the nearest penny, each table's worked out whole before two are combined
+unfoldable pub creditOf : Terms → List ℕ → ℕ
+creditOf t marks = creditBy nearest (contractOf t) marks
+
+-- the exact credit, a fraction of a penny
+unfoldable pub exactCreditOf : Terms → List ℕ → Fraction
+exactCreditOf t marks = exactly (contractOf t) marks

@@ -1,0 +1,5 @@
+pub mod Credit
+pub mod Settle
+pub mod Examine
+pub mod Demand
+pub mod Told

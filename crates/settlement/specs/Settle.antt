@@ -1,0 +1,68 @@
+-- Document 01, "What each operation gives", Settle.
+-- Assumes nothing.
+use mathlib.Core.List.{List}
+use Prim.Native.Nat.{ℕ, _*_}
+use lib.Dec.{eqb}
+use Rattle.common.specs.Choice.{pick}
+use Rattle.election.specs.declared.Terms.{Terms}
+use Rattle.election.specs.Rules.{refusalOf}
+use Rattle.election.specs.Price.{contributionOf}
+use Rattle.marks.specs.Counts.{paidMonths}
+use Rattle.marks.specs.Status.{statusOf}
+use Rattle.marks.specs.Reading.{marksOf}
+use Rattle.settlement.specs.declared.Settlement.{Settlement}
+use Rattle.settlement.specs.declared.Settlement.the-variants.{Refused, Settled}
+use Rattle.settlement.specs.Credit.{creditOf}
+
+-- what a settlement gives, in document 01's numbers; refusal 0 is none
+pub record SettleNumbers : Type 0 where
+  pub refusal : ℕ
+  pub place : ℕ
+  pub contribution : ℕ
+  pub status : ℕ
+  pub credit : ℕ
+  pub refund : ℕ
+
+-- 1 to 8 as a quote with nothing existing; then 10, 11 or 12 of the marks
+unfoldable pub settleRefusal : Terms → List ℕ → ℕ
+settleRefusal t marks = pick (eqb (refusalOf t 0) 0) (marksOf (t .term) marks .refusal) (refusalOf t 0)
+
+-- the index of a bad mark, 0 for any other refusal
+unfoldable pub settlePlace : Terms → List ℕ → ℕ
+settlePlace t marks = pick (eqb (refusalOf t 0) 0) (marksOf (t .term) marks .place) 0
+
+-- nothing when refunded; a lump sum is credited in full; else what the paid runs earned
+unfoldable pub creditAtStatus : Terms → List ℕ → ℕ → ℕ
+creditAtStatus t marks status = pick (eqb status 5) 0 (pick (eqb status 6) (t .amount * 100) (creditOf t marks))
+
+-- the contribution for each paid month when refunded, else nothing
+unfoldable pub refundAtStatus : Terms → List ℕ → ℕ → ℕ
+refundAtStatus t marks status = pick (eqb status 5) (contributionOf t * paidMonths marks) 0
+
+-- a refusal, all other fields 0
+abbrev pub refusedNumbers : ℕ → ℕ → SettleNumbers
+refusedNumbers n place =
+    record { refusal = n; place = place; contribution = 0; status = 0; credit = 0; refund = 0 }
+
+-- terms and marks that are not refused
+abbrev pub settledNumbers : Terms → List ℕ → SettleNumbers
+settledNumbers t marks =
+    record {
+      refusal = 0;
+      place = 0;
+      contribution = contributionOf t;
+      status = statusOf (t .term) marks;
+      credit = creditAtStatus t marks (statusOf (t .term) marks);
+      refund = refundAtStatus t marks (statusOf (t .term) marks);
+    }
+
+unfoldable pub settleOf : Terms → List ℕ → SettleNumbers
+settleOf t marks =
+    pick (eqb (settleRefusal t marks) 0) (settledNumbers t marks)
+    (refusedNumbers (settleRefusal t marks) (settlePlace t marks))
+
+-- document 01's numbers for each case of an answer
+abbrev pub numbersOf : Settlement → SettleNumbers
+numbersOf (Refused n i) = refusedNumbers n i
+numbersOf (Settled c s k f) =
+    record { refusal = 0; place = 0; contribution = c .0; status = s; credit = k .0; refund = f .0 }

@@ -1,0 +1,153 @@
+// What a member holds: contribution, status, credit and refund of an election for the marks of its elapsed months.
+ghost use mathlib.Core.Path.{_≡_};
+ghost use lib.ListN.{length};
+ghost use Prim.Native.Nat.{_*_, _≤_, _<_, _^_};
+ghost use lib.Dec.{eqb};
+ghost use Rattle.common.specs.Choice.{pick};
+ghost use Rattle.money.specs.Money.{pension, contribution};
+ghost use Rattle.settlement.specs.Credit.{creditOf};
+ghost use Rattle.settlement.specs.Settle.{creditAtStatus, settleOf, numbersOf};
+ghost use Rattle.settlement.specs.Examine.{refusedExamined, examinedOf};
+ghost use Rattle.settlement.specs.Demand.{Demand3};
+ghost use Rattle.settlement.specs.Told.{Monthly};
+use election::Terms;
+use money::ContributionPence;
+use money::PensionPence;
+
+pub enum Settlement {
+    // the refusal, and the index of a bad mark
+    Refused {
+        refusal: u32,
+        place: usize,
+    },
+    Settled {
+        contribution: ContributionPence,
+        status: u32,
+        credit: PensionPence,
+        refund: ContributionPence,
+    },
+}
+
+// Terms and marks with their first refusal and its place; or, where that is 0, what the settlement goes by.
+pub struct Examined {
+    pub refusal: u32,
+    pub place: usize,
+    pub contribution: ContributionPence,
+    pub status: u32,
+    pub paid: usize,
+    pub lower: [u32; 20],
+    pub upper: [u32; 20],
+}
+
+fn refuse(refusal: u32, place: usize) -> Examined
+    ensures { λ r. ⌜ r ≡ refusedExamined refusal place ⌝ }
+{
+    Examined {
+        refusal,
+        place,
+        contribution: ContributionPence::none(),
+        status: 0,
+        paid: 0,
+        lower: [0u32; 20],
+        upper: [0u32; 20],
+    }
+}
+
+// The terms are looked at first, as a quote with nothing existing; then the marks.
+pub fn examine(t: Terms, marks: &[u8]) -> Examined
+    ensures { λ r. ⌜ r ≡ examinedOf t (now (marks .entry)) ⌝ }
+{
+    let priced = election::price(t, PensionPence::none());
+    if priced.refusal != 0 {
+        return refuse(priced.refusal, 0);
+    }
+    let read = marks::read_marks(marks, t.term);
+    if read.refusal != 0 {
+        return refuse(read.refusal, read.place);
+    }
+    let contribution = priced.contribution;
+    let lower = priced.lower;
+    let upper = priced.upper;
+    let status = marks::status(t.term, read);
+    Examined {
+        refusal: 0,
+        place: 0,
+        contribution,
+        status,
+        paid: read.paid,
+        lower,
+        upper,
+    }
+}
+
+// What the paid runs of a monthly contract earned: each table's credit whole, then combined.
+fn earned(t: Terms, lower: [u32; 20], upper: [u32; 20], marks: &[u8]) -> PensionPence
+    requires { ⌜ Monthly t lower upper ⌝ }
+    requires { ⌜ length (now marks) ≤ 240 ⌝ }
+    ensures { λ r. ⌜ r ≡ pension (creditOf t (now (marks .entry))) ⌝ }
+{
+    let units = t.amount / election::STEP;
+    let only = credit::credit_in(credit::year_credits(lower, units, t.term), marks);
+    if t.months == 0 {
+        return only;
+    }
+    let other = credit::credit_in(credit::year_credits(upper, units, t.term), marks);
+    only.combine(other, t.months)
+}
+
+// The credit at a status: nothing when refunded, a lump sum in full.
+fn credit_at(
+    t: Terms,
+    lower: [u32; 20],
+    upper: [u32; 20],
+    status: u32,
+    marks: &[u8],
+) -> PensionPence
+    requires { ⌜ ((status ≡ 6 → ⊥) → Monthly t lower upper) ⌝ }
+    requires { ⌜ length (now marks) ≤ 240 ⌝ }
+    ensures { λ r. ⌜ r ≡ pension (creditAtStatus t (now (marks .entry)) status) ⌝ }
+{
+    if status == 5 {
+        return PensionPence::none();
+    }
+    if status == 6 {
+        return PensionPence::of_pounds(t.amount);
+    }
+    earned(t, lower, upper, marks)
+}
+
+// The refund at a status: the paid months' contributions when refunded.
+fn refund_at(own: ContributionPence, status: u32, paid: usize) -> ContributionPence
+    requires { ⌜ (own .0 < 2 ^ 32) × (paid ≤ 240) ⌝ }
+    ensures { λ r. ⌜ r ≡ contribution (pick (eqb status 5) (own .0 * paid) 0) ⌝ }
+{
+    if status == 5 {
+        return own.times(paid as u32);
+    }
+    ContributionPence::none()
+}
+
+// Contribution, status, credit and refund; or the first refusal and its place.
+pub fn settle(t: Terms, marks: &[u8]) -> Settlement
+    ensures is { λ r. ⌜ numbersOf r ≡ settleOf t (now (marks .entry)) ⌝ }
+    ensures distance { λ r. ⌜ (Demand3 t (now (marks .entry)) (numbersOf r)) ⌝ }
+{
+    let e = examine(t, marks);
+    if e.refusal != 0 {
+        return Settlement::Refused {
+            refusal: e.refusal,
+            place: e.place,
+        };
+    }
+    let contribution = e.contribution;
+    let lower = e.lower;
+    let upper = e.upper;
+    let credit = credit_at(t, lower, upper, e.status, marks);
+    let refund = refund_at(contribution, e.status, e.paid);
+    Settlement::Settled {
+        contribution,
+        status: e.status,
+        credit,
+        refund,
+    }
+}
