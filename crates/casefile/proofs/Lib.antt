@@ -6,3 +6,4 @@ pub mod Ends
 pub mod Keeping
 pub mod Settling
 pub mod Last
+pub mod Laws

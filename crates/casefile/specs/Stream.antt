@@ -59,3 +59,11 @@ writtenThrough p (c ∷ cs) = writtenBy p c ++ writtenThrough (take 286 (openAft
 unfoldable pub fileOf : List (List ℕ) → List ℕ
 fileOf [] = []
 fileOf (c ∷ cs) = c ++ fileOf cs
+
+-- Any calls one after the other, then the call at the end: the open line before them, the bytes that they work through
+-- and the bytes that they write.
+pub data Calls : OpenLine → List ℕ → List ℕ → Type 0 where
+  at-end : {o : OpenLine} {r : EndSettled} → EndTold o r → Calls o [] (take (r .wrote) (r .bytes))
+  on-chunk : {o : OpenLine} {chunk out out′ rest written : List ℕ} {r : ChunkSettled}
+      → ChunkTold o chunk out out′ r → Calls (r .after) rest written
+      → Calls o (take (r .taken) chunk ++ rest) (take (r .wrote) out′ ++ written)
