@@ -64,12 +64,20 @@ fn read_once(before: OpenLine, chunk: &mut [u8], out: &mut [u8]) -> Turn
     print_settled(before, &chunk[..n], out)
 }
 
+fn say_reading_failed() {
+    io::write_all(STDERR_FILENO, b"settle_cases: reading failed\n");
+}
+
+fn say_writing_failed() {
+    io::write_all(STDERR_FILENO, b"settle_cases: writing failed\n");
+}
+
 fn print_last(before: OpenLine) {
     let last = casefile::settle_end(before);
     let bytes = last.bytes;
     let wrote = last.wrote;
     if !io::write_all(STDOUT_FILENO, &bytes[..wrote]) {
-        io::write_all(STDERR_FILENO, b"settle_cases: writing failed\n");
+        say_writing_failed();
     }
 }
 
@@ -90,11 +98,11 @@ fn settle_input(chunk: &mut [u8], out: &mut [u8])
                 turns = 0;
             }
             Next::ReadFailed => {
-                io::write_all(STDERR_FILENO, b"settle_cases: reading failed\n");
+                say_reading_failed();
                 turns = 0;
             }
             Next::WriteFailed => {
-                io::write_all(STDERR_FILENO, b"settle_cases: writing failed\n");
+                say_writing_failed();
                 turns = 0;
             }
         }

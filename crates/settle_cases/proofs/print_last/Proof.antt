@@ -1,40 +1,37 @@
+-- `settle_cases::print_last` meets its contract.
+-- Assumes nothing.
+use mathlib.Core.Path.{_≡_, sym}
+use Prim.Native.Nat.{_≤_}
+use native.Mathlib.Omega.{arith}
+use lib.ListN.{length}
+use lib.Seq.{length-take-le}
 use borrow.Author.Needs.{needs}
 use Rattle.settle_cases.proofs.print_last.Statement.{statement}
 use Rattle.settle_cases.proofs.print_last.Tie as tie
-use Rattle.settle_cases.proofs.print_last.Reads as reads
-use Rattle.settle_cases.proofs.print_last.Lts as lts
-use Rattle.casefile.proofs.settle_end.Reads as settle-end-reads
-use Rattle.io.proofs.write_all.Reads as write-all-reads
 
--- src/main.rt:68:9
+within : (c : tie.After-settle-end) → c .settle-end .result .wrote ≤ length (c .settle-end .result .bytes)
+within c =
+    let long : length (c .settle-end .result .bytes) ≡ 46 = search needs in
+    omega (arith, c .settle-end .ensures .within)
+
 settle-end-requires : tie.Need-settle-end-requires
 settle-end-requires c κs = search needs
 
--- src/main.rt:71:38
 array-share-prefix-bytes : tie.Need-array-share-prefix-bytes
-array-share-prefix-bytes c = ?
+array-share-prefix-bytes c = within (c .before)
 
--- src/main.rt:71:38
 slice-aggregate-write-all : tie.Need-slice-aggregate-write-all
-slice-aggregate-write-all c = ?
+slice-aggregate-write-all c = sym (length-take-le _ _ (within (c .before .before)))
 
--- src/main.rt:71:9
 write-all-requires : tie.Need-write-all-requires
 write-all-requires c κs = search needs
 
--- src/main.rt:72:38
-slice-aggregate-write-all-2 : tie.Need-slice-aggregate-write-all-2
-slice-aggregate-write-all-2 c = search needs
+say-writing-failed-requires : tie.Need-say-writing-failed-requires
+say-writing-failed-requires c κs = search needs
 
--- src/main.rt:72:9
-write-all-requires-2 : tie.Need-write-all-requires-2
-write-all-requires-2 c κs = search needs
-
--- src/main.rt:67:1
 returns : tie.Need-returns
 returns c = search needs
 
--- src/main.rt:67:1
 returns-2 : tie.Need-returns-2
 returns-2 c = search needs
 
@@ -46,7 +43,6 @@ print-last-spec =
     array-share-prefix-bytes
     slice-aggregate-write-all
     write-all-requires
-    slice-aggregate-write-all-2
-    write-all-requires-2
+    say-writing-failed-requires
     returns
     returns-2)
