@@ -1,0 +1,28 @@
+-- Numbers as bytes.
+-- Assumes nothing.
+use mathlib.Core.List.{List, [], _∷_, _++_}
+use Prim.Native.Nat.{ℕ, zero, suc, _+_, _*_, _/_, _%_}
+use lib.ListN.{take, drop}
+
+-- the k lowest bytes of n, low byte first
+unfoldable pub lowBytes : ℕ → ℕ → List ℕ
+lowBytes zero n = []
+lowBytes (suc k) n = n % 256 ∷ lowBytes k (n / 256)
+
+-- an 8-byte number, low byte first
+unfoldable pub eightBytes : ℕ → List ℕ
+eightBytes n = lowBytes 8 n
+
+-- 8-byte numbers one after another
+unfoldable pub inBytes : List ℕ → List ℕ
+inBytes [] = []
+inBytes (n ∷ ns) = eightBytes n ++ inBytes ns
+
+-- the number that bytes stand for, low byte first
+unfoldable pub numberOf : List ℕ → ℕ
+numberOf [] = 0
+numberOf (b ∷ bytes) = b + 256 * numberOf bytes
+
+-- the 8-byte number that stands in a buffer from an index on
+unfoldable pub numberAt : List ℕ → ℕ → ℕ
+numberAt buffer i = numberOf (take 8 (drop i buffer))
