@@ -29,3 +29,32 @@ pub store-all : (l l₀ bytes : List ℕ) (at i n : ℕ) → bytes ≡ eightByte
     → sets l (at + i) (drop i bytes) ≡ sets l₀ at bytes → l ≡ sets l₀ at (eightBytes n)
 unfolding eightBytes lowBytes
 store-all l l₀ bytes at i n e z inv = rw (e, z) at inv
+
+-- a run of stores and the next, as one
+sets-append : (l xs ys : List ℕ) (at : ℕ) → sets (sets l at xs) (at + length xs) ys ≡ sets l at (xs ++ ys)
+sets-append l [] ys at = let e : at + 0 ≡ at = omega arith in rw e
+sets-append l (x ∷ xs) ys at =
+    let e : at + suc (length xs) ≡ suc at + length xs = omega arith in
+    rw e (sets-append (set l at x) xs ys (suc at))
+
+module _ (l : List ℕ) where
+  pub three-stored : (at a b c : ℕ)
+      → sets (sets (sets l at (eightBytes a)) (at + 8) (eightBytes b)) (at + 16) (eightBytes c) ≡ sets l at (inBytes (a ∷ b ∷ c ∷ []))
+  unfolding inBytes eightBytes lowBytes
+  three-stored at a b c =
+      ap (λ (x : List ℕ). sets x (at + 16) (eightBytes c)) (sets-append l (eightBytes a) (eightBytes b) at)
+      ∙ sets-append l (eightBytes a ++ eightBytes b) (eightBytes c) at
+
+  -- a quote's numbers at the front of a buffer
+  pub quote-stored : (a b c : ℕ) → 24 ≤ length l → sets l 0 (inBytes (a ∷ b ∷ c ∷ [])) ≡ inBytes (a ∷ b ∷ c ∷ []) ++ drop 24 l
+  unfolding inBytes eightBytes lowBytes
+  quote-stored a b c h = sets-eq (inBytes (a ∷ b ∷ c ∷ [])) l 0 h
+
+  -- a settlement's
+  pub settlement-stored : (a b c d e f : ℕ) → 48 ≤ length l
+      → sets (sets l 0 (inBytes (a ∷ b ∷ c ∷ []))) 24 (inBytes (d ∷ e ∷ f ∷ []))
+      ≡ inBytes (a ∷ b ∷ c ∷ d ∷ e ∷ f ∷ []) ++ drop 48 l
+  unfolding inBytes eightBytes lowBytes
+  settlement-stored a b c d e f h =
+      sets-append l (inBytes (a ∷ b ∷ c ∷ [])) (inBytes (d ∷ e ∷ f ∷ [])) 0
+      ∙ sets-eq (inBytes (a ∷ b ∷ c ∷ d ∷ e ∷ f ∷ [])) l 0 h

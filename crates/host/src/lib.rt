@@ -55,13 +55,20 @@ fn put(out: &mut [u8], at: usize, n: u64)
     }
 }
 
+fn put_three(out: &mut [u8], at: usize, first: u64, second: u64, third: u64)
+    requires { ⌜ at + 24 ≤ length (now out) ⌝ }
+    ensures { λ _. ⌜ now (out .exit) ≡ sets (now (out .entry)) at (inBytes (first ∷ second ∷ third ∷ [])) ⌝ }
+{
+    put(out, at, first);
+    put(out, at + 8, second);
+    put(out, at + 16, third);
+}
+
 fn put_quote(out: &mut [u8], refusal: u32, contribution: ContributionPence, next: u32)
     requires { ⌜ 24 ≤ length (now out) ⌝ }
     ensures { λ _. ⌜ now (out .exit) ≡ inBytes (refusal ∷ contribution .0 ∷ next ∷ []) ++ drop 24 (now (out .entry)) ⌝ }
 {
-    put(out, 0, refusal as u64);
-    put(out, 8, contribution.0);
-    put(out, 16, next as u64);
+    put_three(out, 0, refusal as u64, contribution.0, next as u64);
 }
 
 fn put_settlement(
@@ -76,12 +83,8 @@ fn put_settlement(
     requires { ⌜ 48 ≤ length (now out) ⌝ }
     ensures { λ _. ⌜ now (out .exit) ≡ inBytes (refusal ∷ place ∷ contribution .0 ∷ status ∷ credit .0 ∷ refund .0 ∷ []) ++ drop 48 (now (out .entry)) ⌝ }
 {
-    put(out, 0, refusal as u64);
-    put(out, 8, place as u64);
-    put(out, 16, contribution.0);
-    put(out, 24, status as u64);
-    put(out, 32, credit.0);
-    put(out, 40, refund.0);
+    put_three(out, 0, refusal as u64, place as u64, contribution.0);
+    put_three(out, 24, status as u64, credit.0, refund.0);
 }
 
 // The numbers of a quote; the refusal is handed back.
@@ -93,7 +96,7 @@ fn tell_quote(out: &mut [u8], q: Quoted) -> u32
     let answer = q.answer;
     match answer {
         QuoteAnswer::Refused(refusal) => {
-            put_quote(out, refusal, ContributionPence::none(), 0);
+            put_quote(out, refusal, ContributionPence(0), 0);
             refusal
         }
         QuoteAnswer::Made {
@@ -114,7 +117,7 @@ fn tell_settlement(out: &mut [u8], s: Settlement) -> u32
 {
     match s {
         Settlement::Refused { refusal, place } => {
-            put_settlement(out, refusal, place, ContributionPence::none(), 0, PensionPence::none(), ContributionPence::none());
+            put_settlement(out, refusal, place, ContributionPence(0), 0, PensionPence(0), ContributionPence(0));
             refusal
         }
         Settlement::Settled {

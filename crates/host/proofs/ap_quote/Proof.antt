@@ -1,3 +1,4 @@
+use Rattle.host.proofs.Calls.{quote-short, quote-enough}
 use borrow.Author.Needs.{needs}
 use Rattle.host.proofs.ap_quote.Statement.{statement}
 use Rattle.host.proofs.ap_quote.Tie as tie
@@ -8,7 +9,7 @@ use Rattle.quotes.proofs.quote.Reads as quote-reads
 
 -- src/lib.rt:150:9
 returns : tie.Need-returns
-returns c = ?
+returns c = quote-short _ _ _ _ (c .if1 .taken)
 
 -- src/lib.rt:163:21
 quote-requires : tie.Need-quote-requires
@@ -24,7 +25,9 @@ same-length c = search needs
 
 -- src/lib.rt:133:1
 returns-2 : tie.Need-returns-2
-returns-2 c = ?
+returns-2 c =
+    quote-enough _ _ _ _ (c .before .before .before .before .before .if1 .left) (c .before .before .before .quote .ensures)
+    (c .before .before .tell-quote .ensures)
 
 pub ap-quote-spec : {M : Type 1} → statement M
 ap-quote-spec =

@@ -1,3 +1,4 @@
+use Rattle.host.proofs.Calls.{settle-short, settle-enough}
 use borrow.Author.Needs.{needs}
 use Rattle.host.proofs.ap_settle.Statement.{statement}
 use Rattle.host.proofs.ap_settle.Tie as tie
@@ -8,7 +9,7 @@ use Rattle.settlement.proofs.settle.Reads as settle-reads
 
 -- src/lib.rt:183:9
 returns : tie.Need-returns
-returns c = ?
+returns c = settle-short _ _ _ (c .if1 .taken)
 
 -- src/lib.rt:194:26
 settle-requires : tie.Need-settle-requires
@@ -24,7 +25,9 @@ same-length c = search needs
 
 -- src/lib.rt:167:1
 returns-2 : tie.Need-returns-2
-returns-2 c = ?
+returns-2 c =
+    settle-enough _ _ _ (c .before .before .before .before .before .if1 .left) (c .before .before .before .settle .ensures .0)
+    (c .before .before .tell-settlement .ensures)
 
 pub ap-settle-spec : {M : Type 1} → statement M
 ap-settle-spec =

@@ -1,64 +1,51 @@
+use mathlib.Core.Path.{refl}
+use Rattle.host.specs.Calls.{settleBytes}
 use borrow.Author.Needs.{needs}
 use Rattle.host.proofs.tell_settlement.Statement.{statement}
 use Rattle.host.proofs.tell_settlement.Tie as tie
 use Rattle.host.proofs.tell_settlement.Reads as reads
 use Rattle.host.proofs.tell_settlement.Lts as lts
 use Rattle.host.proofs.put_settlement.Reads as put-settlement-reads
-use Rattle.money.proofs.ContributionPence.none.Reads as ContributionPence-none-reads
-use Rattle.money.proofs.PensionPence.none.Reads as PensionPence-none-reads
 
--- src/lib.rt:116:31
+-- src/lib.rt:119:31
 enum-known-s : tie.Need-enum-known-s
 enum-known-s c = search needs
 
--- src/lib.rt:117:49
-none-requires : tie.Need-none-requires
-none-requires c κs = search needs
-
--- src/lib.rt:117:79
-none-requires-2 : tie.Need-none-requires-2
-none-requires-2 c κs = search needs
-
--- src/lib.rt:117:101
-none-requires-3 : tie.Need-none-requires-3
-none-requires-3 c κs = search needs
-
--- src/lib.rt:117:13
+-- src/lib.rt:120:13
 put-settlement-requires : tie.Need-put-settlement-requires
 put-settlement-requires c κs = search needs
 
--- src/lib.rt:121:13
+-- src/lib.rt:124:13
 enum-known-s-2 : tie.Need-enum-known-s-2
 enum-known-s-2 c = search needs
 
--- src/lib.rt:126:13
+-- src/lib.rt:129:13
 put-settlement-requires-2 : tie.Need-put-settlement-requires-2
 put-settlement-requires-2 c κs = search needs
 
--- src/lib.rt:110:1
+-- src/lib.rt:113:1
 same-length : tie.Need-same-length
 same-length c = search needs
 
--- src/lib.rt:110:1
+-- src/lib.rt:113:1
 returns : tie.Need-returns
-returns c = ?
+unfolding settleBytes
+returns c = rw (c .before .before .before .before .before .s .given .1) (refl, c .before .before .put-settlement .ensures)
 
--- src/lib.rt:110:1
+-- src/lib.rt:113:1
 same-length-2 : tie.Need-same-length-2
 same-length-2 c = search needs
 
--- src/lib.rt:110:1
+-- src/lib.rt:113:1
 returns-2 : tie.Need-returns-2
-returns-2 c = ?
+unfolding settleBytes
+returns-2 c = rw (c .before .before .before .before .before .s2 .given .1) (refl, c .before .before .put-settlement2 .ensures)
 
 pub tell-settlement-spec : {M : Type 1} → statement M
 tell-settlement-spec =
     tie.close
     (tie.spec
     enum-known-s
-    none-requires
-    none-requires-2
-    none-requires-3
     put-settlement-requires
     enum-known-s-2
     put-settlement-requires-2
