@@ -1,8 +1,7 @@
 -- Numbers as bytes.
 -- Assumes nothing.
 use mathlib.Core.List.{List, [], _∷_, _++_}
-use Prim.Native.Nat.{ℕ, zero, suc, _+_, _*_, _/_, _%_}
-use lib.ListN.{take, drop}
+use Prim.Native.Nat.{ℕ, zero, suc, _/_, _%_}
 
 -- the k lowest bytes of n, low byte first
 unfoldable pub lowBytes : ℕ → ℕ → List ℕ
@@ -17,12 +16,3 @@ eightBytes n = lowBytes 8 n
 unfoldable pub inBytes : List ℕ → List ℕ
 inBytes [] = []
 inBytes (n ∷ ns) = eightBytes n ++ inBytes ns
-
--- the number that bytes stand for, low byte first
-unfoldable pub numberOf : List ℕ → ℕ
-numberOf [] = 0
-numberOf (b ∷ bytes) = b + 256 * numberOf bytes
-
--- the 8-byte number that stands in a buffer from an index on
-unfoldable pub numberAt : List ℕ → ℕ → ℕ
-numberAt buffer i = numberOf (take 8 (drop i buffer))
