@@ -8,7 +8,7 @@ use lib.ListN.{length, drop}
 use Rattle.election.specs.declared.Terms.{Terms}
 use Rattle.quotes.specs.Quote.{QuoteNumbers, quoteOf}
 use Rattle.settlement.specs.Settle.{SettleNumbers, settleOf}
-use Rattle.host.specs.Calls.{HostAnswer, answerIn, quoteBytes, settleBytes, hostQuoteOf, hostSettleOf}
+use Rattle.host.specs.Calls.{answerIn, quoteBytes, settleBytes, hostQuoteOf, hostSettleOf}
 
 module _ (size refusal : ℕ) (result buffer : List ℕ) where
   short : length buffer < size
@@ -32,9 +32,10 @@ module _ (t : Terms) (existing last : ℕ) (buffer : List ℕ) where
       → (value ≡ hostQuoteOf t existing last buffer .value) × (after ≡ hostQuoteOf t existing last buffer .buffer)
   unfolding hostQuoteOf
   quote-enough h is told =
-      let whole = enough 24 (quoteOf t existing last .refusal) (quoteBytes (quoteOf t existing last)) buffer h in
-      (told .0 ∙ ap (λ (n : QuoteNumbers). n .refusal) is ∙ whole .0,
-       told .1 ∙ ap (λ (n : QuoteNumbers). quoteBytes n ++ drop 24 buffer) is ∙ whole .1)
+      let whole = enough 24 (quoteOf t existing last .refusal) (quoteBytes (quoteOf t existing last)) buffer h in (
+        told .0 ∙ ap (λ (n : QuoteNumbers). n .refusal) is ∙ whole .0,
+        told .1 ∙ ap (λ (n : QuoteNumbers). quoteBytes n ++ drop 24 buffer) is ∙ whole .1,
+      )
 
 module _ (t : Terms) (marks buffer : List ℕ) where
   pub settle-short : length buffer < 48
@@ -47,6 +48,7 @@ module _ (t : Terms) (marks buffer : List ℕ) where
       → (value ≡ hostSettleOf t marks buffer .value) × (after ≡ hostSettleOf t marks buffer .buffer)
   unfolding hostSettleOf
   settle-enough h is told =
-      let whole = enough 48 (settleOf t marks .refusal) (settleBytes (settleOf t marks)) buffer h in
-      (told .0 ∙ ap (λ (n : SettleNumbers). n .refusal) is ∙ whole .0,
-       told .1 ∙ ap (λ (n : SettleNumbers). settleBytes n ++ drop 48 buffer) is ∙ whole .1)
+      let whole = enough 48 (settleOf t marks .refusal) (settleBytes (settleOf t marks)) buffer h in (
+        told .0 ∙ ap (λ (n : SettleNumbers). n .refusal) is ∙ whole .0,
+        told .1 ∙ ap (λ (n : SettleNumbers). settleBytes n ++ drop 48 buffer) is ∙ whole .1,
+      )

@@ -15,27 +15,26 @@ abbrev pub terms : (age years months option payer term amount : ℕ) → Terms
 terms age years months option payer term amount =
     record { age = age; years = years; months = months; option = option; payer = payer; term = term; amount = amount }
 
--- Quote writes refusal, contribution, next number
+-- the result of Quote: refusal, contribution, next number
 unfoldable pub quoteBytes : QuoteNumbers → List ℕ
 quoteBytes n = inBytes (n .refusal ∷ n .contribution ∷ n .next ∷ [])
 
--- Settle writes refusal, place, contribution, status, credit, refund
+-- the result of Settle: refusal, place, contribution, status, credit, refund
 unfoldable pub settleBytes : SettleNumbers → List ℕ
 settleBytes n = inBytes (n .refusal ∷ n .place ∷ n .contribution ∷ n .status ∷ n .credit ∷ n .refund ∷ [])
 
--- what a call gives: its value, and all bytes of the lent buffer at its end
+-- what a call gives: its value, and every byte of the lent buffer when it returns
 pub record HostAnswer : Type 0 where
   pub value : ℕ
   pub buffer : List ℕ
 
--- A shorter buffer gives 14, before any other check, and keeps its bytes. Otherwise the value is the refusal, and the bytes
--- past the result stay.
+-- too short a buffer: 14, whatever else is wrong, and no byte changes; else the refusal, and only the first bytes change
 unfoldable pub answerIn : (size refusal : ℕ) (result buffer : List ℕ) → HostAnswer
 answerIn size refusal result buffer =
     pick (ltb (length buffer) size) (record { value = 14; buffer = buffer })
     (record { value = refusal; buffer = result ++ drop size buffer })
 
--- Quote for a host, which keeps the register: 24 bytes
+-- Quote for a host: 24 bytes; the host keeps the register
 unfoldable pub hostQuoteOf : Terms → (existing last : ℕ) → List ℕ → HostAnswer
 hostQuoteOf t existing last buffer =
     answerIn 24 (quoteOf t existing last .refusal) (quoteBytes (quoteOf t existing last)) buffer

@@ -16,11 +16,13 @@ use quotes::Quoted;
 use quotes::Register;
 use settlement::Settlement;
 
-// How many bytes the results take.
+// How many bytes the results of Quote take.
 const QUOTE_BYTES: usize = 24;
+
+// How many those of Settle take.
 const SETTLE_BYTES: usize = 48;
 
-// The value of a call whose buffer is shorter.
+// The value of a call whose buffer has fewer bytes.
 const SHORT_BUFFER: u32 = 14;
 
 fn low_byte(n: u64) -> u8
@@ -39,10 +41,19 @@ fn low_byte_first(n: u64) -> [u8; 8]
     let n5 = n4 / 256;
     let n6 = n5 / 256;
     let n7 = n6 / 256;
-    [low_byte(n), low_byte(n1), low_byte(n2), low_byte(n3), low_byte(n4), low_byte(n5), low_byte(n6), low_byte(n7)]
+    [
+        low_byte(n),
+        low_byte(n1),
+        low_byte(n2),
+        low_byte(n3),
+        low_byte(n4),
+        low_byte(n5),
+        low_byte(n6),
+        low_byte(n7),
+    ]
 }
 
-// The eight bytes of n, from an index on.
+// Stores the eight bytes of n from an index on.
 fn put(out: &mut [u8], at: usize, n: u64)
     requires { ⌜ at + 8 ≤ length (now out) ⌝ }
     ensures { λ _. ⌜ now (out .exit) ≡ sets (now (out .entry)) at (eightBytes n) ⌝ }
@@ -55,6 +66,7 @@ fn put(out: &mut [u8], at: usize, n: u64)
     }
 }
 
+// Stores three numbers, one after another, from an index on.
 fn put_three(out: &mut [u8], at: usize, first: u64, second: u64, third: u64)
     requires { ⌜ at + 24 ≤ length (now out) ⌝ }
     ensures { λ _. ⌜ now (out .exit) ≡ sets (now (out .entry)) at (inBytes (first ∷ second ∷ third ∷ [])) ⌝ }
@@ -64,6 +76,7 @@ fn put_three(out: &mut [u8], at: usize, first: u64, second: u64, third: u64)
     put(out, at + 16, third);
 }
 
+// Stores the numbers of a quote at the front of a buffer.
 fn put_quote(out: &mut [u8], refusal: u32, contribution: ContributionPence, next: u32)
     requires { ⌜ 24 ≤ length (now out) ⌝ }
     ensures { λ _. ⌜ now (out .exit) ≡ inBytes (refusal ∷ contribution .0 ∷ next ∷ []) ++ drop 24 (now (out .entry)) ⌝ }
@@ -71,6 +84,7 @@ fn put_quote(out: &mut [u8], refusal: u32, contribution: ContributionPence, next
     put_three(out, 0, refusal as u64, contribution.0, next as u64);
 }
 
+// Stores the numbers of a settlement at the front of a buffer.
 fn put_settlement(
     out: &mut [u8],
     refusal: u32,
@@ -87,7 +101,7 @@ fn put_settlement(
     put_three(out, 24, status as u64, credit.0, refund.0);
 }
 
-// The numbers of a quote; the refusal is handed back.
+// Stores what a quote answers, and hands its refusal back, 0 for none.
 fn tell_quote(out: &mut [u8], q: Quoted) -> u32
     requires { ⌜ 24 ≤ length (now out) ⌝ }
     ensures value { λ r. ⌜ r ≡ quoteNumbers q .refusal ⌝ }
@@ -109,7 +123,7 @@ fn tell_quote(out: &mut [u8], q: Quoted) -> u32
     }
 }
 
-// The numbers of a settlement; the refusal is handed back.
+// Stores what a settlement answers, and hands its refusal back, 0 for none.
 fn tell_settlement(out: &mut [u8], s: Settlement) -> u32
     requires { ⌜ 48 ≤ length (now out) ⌝ }
     ensures value { λ r. ⌜ r ≡ settleNumbers s .refusal ⌝ }
@@ -117,7 +131,15 @@ fn tell_settlement(out: &mut [u8], s: Settlement) -> u32
 {
     match s {
         Settlement::Refused { refusal, place } => {
-            put_settlement(out, refusal, place, ContributionPence(0), 0, PensionPence(0), ContributionPence(0));
+            put_settlement(
+                out,
+                refusal,
+                place,
+                ContributionPence(0),
+                0,
+                PensionPence(0),
+                ContributionPence(0),
+            );
             refusal
         }
         Settlement::Settled {
@@ -132,7 +154,8 @@ fn tell_settlement(out: &mut [u8], s: Settlement) -> u32
     }
 }
 
-// Refusal, contribution and next number, in the first 24 bytes of the buffer.
+// Quote. A buffer of fewer than 24 bytes is left as it is and gives 14. Otherwise its first 24 bytes are refusal, contribution and
+// next number, and the value is the refusal. The host keeps the register: the last number goes in, the next comes out.
 #[no_mangle]
 pub extern "C" fn ap_quote(
     age: u32,
@@ -166,7 +189,8 @@ pub extern "C" fn ap_quote(
     tell_quote(out, quotes::quote(t, existing, register))
 }
 
-// Refusal, place, contribution, status, credit and refund, in the first 48 bytes of the buffer.
+// Settle. A buffer of fewer than 48 bytes is left as it is and gives 14. Otherwise its first 48 bytes are refusal, place,
+// contribution, status, credit and refund, and the value is the refusal.
 #[no_mangle]
 pub extern "C" fn ap_settle(
     age: u32,

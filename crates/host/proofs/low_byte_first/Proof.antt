@@ -1,46 +1,34 @@
 -- `host::low_byte_first` meets its contract.
 -- Assumes nothing.
-use Rattle.host.specs.Bytes.{lowBytes, eightBytes}
 use borrow.Author.Needs.{needs}
+use Rattle.host.specs.Bytes.{lowBytes, eightBytes}
 use Rattle.host.proofs.low_byte_first.Statement.{statement}
 use Rattle.host.proofs.low_byte_first.Tie as tie
-use Rattle.host.proofs.low_byte_first.Reads as reads
-use Rattle.host.proofs.low_byte_first.Lts as lts
-use Rattle.host.proofs.low_byte.Reads as low-byte-reads
 
--- src/lib.rt:42:6
 low-byte-requires : tie.Need-low-byte-requires
 low-byte-requires c κs = search needs
 
--- src/lib.rt:42:19
 low-byte-requires-2 : tie.Need-low-byte-requires-2
 low-byte-requires-2 c κs = search needs
 
--- src/lib.rt:42:33
 low-byte-requires-3 : tie.Need-low-byte-requires-3
 low-byte-requires-3 c κs = search needs
 
--- src/lib.rt:42:47
 low-byte-requires-4 : tie.Need-low-byte-requires-4
 low-byte-requires-4 c κs = search needs
 
--- src/lib.rt:42:61
 low-byte-requires-5 : tie.Need-low-byte-requires-5
 low-byte-requires-5 c κs = search needs
 
--- src/lib.rt:42:75
 low-byte-requires-6 : tie.Need-low-byte-requires-6
 low-byte-requires-6 c κs = search needs
 
--- src/lib.rt:42:89
 low-byte-requires-7 : tie.Need-low-byte-requires-7
 low-byte-requires-7 c κs = search needs
 
--- src/lib.rt:42:103
 low-byte-requires-8 : tie.Need-low-byte-requires-8
 low-byte-requires-8 c κs = search needs
 
--- src/lib.rt:32:1
 returns : tie.Need-returns
 unfolding eightBytes lowBytes
 returns c = cc

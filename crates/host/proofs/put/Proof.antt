@@ -11,9 +11,6 @@ use lib.Seq.{sets}
 use Rattle.host.proofs.Writing.{length-eight, store-one, store-none, store-all}
 use Rattle.host.proofs.put.Statement.{statement}
 use Rattle.host.proofs.put.Tie as tie
-use Rattle.host.proofs.put.Reads as reads
-use Rattle.host.proofs.put.Lts as lts
-use Rattle.host.proofs.low_byte_first.Reads as low-byte-first-reads
 
 abbrev Inv-loop : tie.InvT-loop
 Inv-loop out₀ at n bytes i₀ out i =
@@ -22,48 +19,38 @@ Inv-loop out₀ at n bytes i₀ out i =
 abbrev μ-loop : tie.MeasureT-loop
 μ-loop out₀ at n bytes i₀ out i = 8 - i
 
--- src/lib.rt:50:17
 low-byte-first-requires : tie.Need-low-byte-first-requires Inv-loop μ-loop
 low-byte-first-requires c κs = search needs
 
--- src/lib.rt:52:5
 loop-holds : tie.Need-loop-holds Inv-loop μ-loop
 loop-holds c =
     let a = c .before .before .args in
     (omega arith, refl, store-none (a .at) (c .low-byte-first .result) (now (a .out)))
 
--- src/lib.rt:53:23
 array-read-out : tie.Need-array-read-out Inv-loop μ-loop
 array-read-out c = omega arith
 
--- src/lib.rt:53:13
 add-out : tie.Need-add-out Inv-loop μ-loop
 add-out c = omega (arith, c .before .before .before .before .pre)
 
--- src/lib.rt:53:9
 slice-write-out : tie.Need-slice-write-out Inv-loop μ-loop
 slice-write-out c = omega (arith, c .before .before .before .before .pre)
 
--- src/lib.rt:54:9
 add-i : tie.Need-add-i Inv-loop μ-loop
 add-i c = omega arith
 
--- src/lib.rt:52:5
 loop-less : tie.Need-loop-less Inv-loop μ-loop
 loop-less c = omega arith
 
--- src/lib.rt:52:5
 loop-again : tie.Need-loop-again Inv-loop μ-loop
-loop-again c = 
+loop-again c =
     let few : c .before .loop .i < length (c .before .before .low-byte-first .result) =
-        omega (arith, ap length (c .before .before .low-byte-first .ensures) ∙ length-eight _) in
+    omega (arith, ap length (c .before .before .low-byte-first .ensures) ∙ length-eight _) in
     (omega arith, simp length-set (c .before .loop .inv .1), store-one _ _ _ _ few ∙ c .before .loop .inv .2)
 
--- src/lib.rt:46:1
 same-length : tie.Need-same-length Inv-loop μ-loop
 same-length c = c .before .loop .inv .1
 
--- src/lib.rt:46:1
 returns : tie.Need-returns Inv-loop μ-loop
 returns c =
     let a = c .before .before .before .before .args in

@@ -1,42 +1,33 @@
+-- `host::tell_settlement` meets its contract, answer by answer.
+-- Assumes nothing.
 use mathlib.Core.Path.{refl}
-use Rattle.host.specs.Calls.{settleBytes}
 use borrow.Author.Needs.{needs}
+use Rattle.host.specs.Calls.{settleBytes}
 use Rattle.host.proofs.tell_settlement.Statement.{statement}
 use Rattle.host.proofs.tell_settlement.Tie as tie
-use Rattle.host.proofs.tell_settlement.Reads as reads
-use Rattle.host.proofs.tell_settlement.Lts as lts
-use Rattle.host.proofs.put_settlement.Reads as put-settlement-reads
 
--- src/lib.rt:119:31
 enum-known-s : tie.Need-enum-known-s
 enum-known-s c = search needs
 
--- src/lib.rt:120:13
 put-settlement-requires : tie.Need-put-settlement-requires
 put-settlement-requires c κs = search needs
 
--- src/lib.rt:124:13
 enum-known-s-2 : tie.Need-enum-known-s-2
 enum-known-s-2 c = search needs
 
--- src/lib.rt:129:13
 put-settlement-requires-2 : tie.Need-put-settlement-requires-2
 put-settlement-requires-2 c κs = search needs
 
--- src/lib.rt:113:1
 same-length : tie.Need-same-length
 same-length c = search needs
 
--- src/lib.rt:113:1
 returns : tie.Need-returns
 unfolding settleBytes
 returns c = rw (c .before .before .before .before .before .s .given .1) (refl, c .before .before .put-settlement .ensures)
 
--- src/lib.rt:113:1
 same-length-2 : tie.Need-same-length-2
 same-length-2 c = search needs
 
--- src/lib.rt:113:1
 returns-2 : tie.Need-returns-2
 unfolding settleBytes
 returns-2 c = rw (c .before .before .before .before .before .s2 .given .1) (refl, c .before .before .put-settlement2 .ensures)
