@@ -38,11 +38,14 @@ sets-append l (x ∷ xs) ys at =
     rw e (sets-append (set l at x) xs ys (suc at))
 
 module _ (l : List ℕ) where
-  pub three-stored : (at a b c : ℕ)
-      → sets (sets (sets l at (eightBytes a)) (at + 8) (eightBytes b)) (at + 16) (eightBytes c) ≡ sets l at (inBytes (a ∷ b ∷ c ∷ []))
+  -- eight bytes after eight bytes after eight bytes
+  pub three-stored : (l₁ l₂ l₃ : List ℕ) (at a b c : ℕ) → l₁ ≡ sets l at (eightBytes a) → l₂ ≡ sets l₁ (at + 8) (eightBytes b)
+      → l₃ ≡ sets l₂ (at + 16) (eightBytes c) → l₃ ≡ sets l at (inBytes (a ∷ b ∷ c ∷ []))
   unfolding inBytes eightBytes lowBytes
-  three-stored at a b c =
-      ap (λ (x : List ℕ). sets x (at + 16) (eightBytes c)) (sets-append l (eightBytes a) (eightBytes b) at)
+  three-stored l₁ l₂ l₃ at a b c first second third =
+      third
+      ∙ ap (λ (x : List ℕ). sets x (at + 16) (eightBytes c))
+      (second ∙ ap (λ (x : List ℕ). sets x (at + 8) (eightBytes b)) first ∙ sets-append l (eightBytes a) (eightBytes b) at)
       ∙ sets-append l (eightBytes a ++ eightBytes b) (eightBytes c) at
 
   -- a quote's numbers at the front of a buffer
@@ -50,11 +53,12 @@ module _ (l : List ℕ) where
   unfolding inBytes eightBytes lowBytes
   quote-stored a b c h = sets-eq (inBytes (a ∷ b ∷ c ∷ [])) l 0 h
 
-  -- a settlement's
-  pub settlement-stored : (a b c d e f : ℕ) → 48 ≤ length l
-      → sets (sets l 0 (inBytes (a ∷ b ∷ c ∷ []))) 24 (inBytes (d ∷ e ∷ f ∷ []))
-      ≡ inBytes (a ∷ b ∷ c ∷ d ∷ e ∷ f ∷ []) ++ drop 48 l
+  -- a settlement's, three and then three
+  pub settlement-stored : (l₁ l₂ : List ℕ) (a b c d e f : ℕ) → 48 ≤ length l → l₁ ≡ sets l 0 (inBytes (a ∷ b ∷ c ∷ []))
+      → l₂ ≡ sets l₁ 24 (inBytes (d ∷ e ∷ f ∷ [])) → l₂ ≡ inBytes (a ∷ b ∷ c ∷ d ∷ e ∷ f ∷ []) ++ drop 48 l
   unfolding inBytes eightBytes lowBytes
-  settlement-stored a b c d e f h =
-      sets-append l (inBytes (a ∷ b ∷ c ∷ [])) (inBytes (d ∷ e ∷ f ∷ [])) 0
+  settlement-stored l₁ l₂ a b c d e f h first second =
+      second
+      ∙ ap (λ (x : List ℕ). sets x 24 (inBytes (d ∷ e ∷ f ∷ []))) first
+      ∙ sets-append l (inBytes (a ∷ b ∷ c ∷ [])) (inBytes (d ∷ e ∷ f ∷ [])) 0
       ∙ sets-eq (inBytes (a ∷ b ∷ c ∷ d ∷ e ∷ f ∷ [])) l 0 h

@@ -15,7 +15,10 @@ same-length : tie.Need-same-length
 same-length c = search needs
 
 returns : tie.Need-returns
-returns c = cc (settlement-stored _ _ _ _ _ _ _ (c .before .before .before .before .before .before .before .before .before .pre))
+returns c =
+    settlement-stored _ _ _ _ _ _ _ _ _ (c .before .before .before .before .before .before .before .before .before .pre)
+    (c .before .before .before .before .before .before .put-three .ensures)
+    (c .before .before .put-three2 .ensures)
 
 pub put-settlement-spec : {M : Type 1} → statement M
 put-settlement-spec =

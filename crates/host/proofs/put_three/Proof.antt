@@ -24,7 +24,10 @@ same-length : tie.Need-same-length
 same-length c = search needs
 
 returns : tie.Need-returns
-returns c = cc (three-stored _ _ _ _ _)
+returns c =
+    three-stored _ _ _ _ _ _ _ _ (c .before .before .before .before .before .before .before .before .before .before .put .ensures)
+    (c .before .before .before .before .before .before .put2 .ensures)
+    (c .before .before .put3 .ensures)
 
 pub put-three-spec : {M : Type 1} → statement M
 put-three-spec =
