@@ -1,0 +1,54 @@
+-- How large the numbers of a quote can be.
+-- Assumes nothing.
+use mathlib.Core.Bool.{Bool, true, false}
+use mathlib.Core.Path.{_≡_, refl}
+use Prim.Native.Nat.{ℕ, _+_, _≤_, _<_}
+use native.Mathlib.Omega.{arith}
+use borrow.Author.Tests.{eqb-true, eqb-false, leb-false}
+use lib.Dec.{eqb, leb}
+use Rattle.common.specs.Choice.{pick}
+use Rattle.common.proofs.Tests.{by-test}
+use Rattle.election.specs.declared.Terms.{Terms}
+use Rattle.election.specs.Rules.{refusalOf}
+use Rattle.election.proofs.Laws.{accepted-facts, refusal-most, contribution-most}
+use Rattle.quotes.specs.Quote.{QuoteNumbers, quoteRefusal, quoteOf}
+
+-- no number of a quote is larger
+pub record QuoteBounds (n : QuoteNumbers) : Type 0 where
+  pub refusal-most : n .refusal ≤ 9
+  pub contribution-most : n .contribution ≤ 11856000
+  pub next-most : n .next ≤ 999999
+
+module _ (t : Terms) (existing last : ℕ) where
+  quote-refusal-most : quoteRefusal t existing last ≤ 9
+  unfolding quoteRefusal
+  quote-refusal-most = go (eqb (refusalOf t existing) 0) (leb 999999 last)
+    where
+      go : (terms full : Bool) → pick terms (pick full 9 0) (refusalOf t existing) ≤ 9
+      go true true = omega arith
+      go true false = omega arith
+      go false full = omega (arith, refusal-most t existing)
+
+  made : quoteRefusal t existing last ≡ 0 → (refusalOf t existing ≡ 0) × (last < 999999)
+  unfolding quoteRefusal
+  made = go (eqb (refusalOf t existing) 0) (leb 999999 last) refl refl
+    where
+      go : (terms full : Bool) → eqb (refusalOf t existing) 0 ≡ terms → leb 999999 last ≡ full
+          → pick terms (pick full 9 0) (refusalOf t existing) ≡ 0 → (refusalOf t existing ≡ 0) × (last < 999999)
+      go true true e f z = omega arith
+      go true false e f z = (eqb-true _ _ e, leb-false _ _ f)
+      go false full e f z = absurd (eqb-false _ _ e z)
+
+  pub quote-bounds : QuoteBounds (quoteOf t existing last)
+  unfolding quoteOf
+  quote-bounds =
+      by-test (eqb (quoteRefusal t existing last) 0)
+      (λ e.
+      let pass = made (eqb-true _ _ e) in
+      rw e
+      record {
+        refusal-most = omega arith;
+        contribution-most = contribution-most t existing (accepted-facts t existing (pass .0));
+        next-most = omega (arith, pass .1);
+      })
+      (λ e. rw e record { refusal-most = quote-refusal-most; contribution-most = omega arith; next-most = omega arith })

@@ -1,0 +1,44 @@
+-- Document 01, "What each operation gives": Quote and Settle, called by a host.
+-- Assumes nothing.
+use mathlib.Core.List.{List, [], _∷_, _++_}
+use Prim.Native.Nat.{ℕ}
+use lib.Dec.{ltb}
+use lib.ListN.{length, drop}
+use Rattle.common.specs.Choice.{pick}
+use Rattle.election.specs.declared.Terms.{Terms}
+use Rattle.quotes.specs.Quote.{QuoteNumbers, quoteOf}
+use Rattle.settlement.specs.Settle.{SettleNumbers, settleOf}
+use Rattle.host.specs.Bytes.{inBytes}
+
+-- the terms that a call's numbers stand for
+abbrev pub terms : (age years months option payer term amount : ℕ) → Terms
+terms age years months option payer term amount =
+    record { age = age; years = years; months = months; option = option; payer = payer; term = term; amount = amount }
+
+-- the result of Quote: refusal, contribution, next number
+unfoldable pub quoteBytes : QuoteNumbers → List ℕ
+quoteBytes n = inBytes (n .refusal ∷ n .contribution ∷ n .next ∷ [])
+
+-- the result of Settle: refusal, place, contribution, status, credit, refund
+unfoldable pub settleBytes : SettleNumbers → List ℕ
+settleBytes n = inBytes (n .refusal ∷ n .place ∷ n .contribution ∷ n .status ∷ n .credit ∷ n .refund ∷ [])
+
+-- what a call gives: its value, and every byte of the lent buffer when it returns
+pub record HostAnswer : Type 0 where
+  pub value : ℕ
+  pub buffer : List ℕ
+
+-- too short a buffer: 14, whatever else is wrong, and no byte changes; else the refusal, and only the first bytes change
+unfoldable pub answerIn : (size refusal : ℕ) (result buffer : List ℕ) → HostAnswer
+answerIn size refusal result buffer =
+    pick (ltb (length buffer) size) (record { value = 14; buffer = buffer })
+    (record { value = refusal; buffer = result ++ drop size buffer })
+
+-- Quote for a host: 24 bytes; the host keeps the register
+unfoldable pub hostQuoteOf : Terms → (existing last : ℕ) → List ℕ → HostAnswer
+hostQuoteOf t existing last buffer =
+    answerIn 24 (quoteOf t existing last .refusal) (quoteBytes (quoteOf t existing last)) buffer
+
+-- Settle for a host: 48 bytes
+unfoldable pub hostSettleOf : Terms → (marks : List ℕ) → List ℕ → HostAnswer
+hostSettleOf t marks buffer = answerIn 48 (settleOf t marks .refusal) (settleBytes (settleOf t marks)) buffer
