@@ -32,11 +32,7 @@ fn program() -> PathBuf {
 
 /// Feeds the pieces one by one through a pipe and takes what the program prints.
 fn run<'a>(pieces: impl Iterator<Item = &'a [u8]> + Send) -> Vec<u8> {
-    let mut child = Command::new(program())
-        .stdin(Stdio::piped())
-        .stdout(Stdio::piped())
-        .spawn()
-        .expect("the program starts");
+    let mut child = Command::new(program()).stdin(Stdio::piped()).stdout(Stdio::piped()).spawn().expect("the program starts");
     let mut input = child.stdin.take().expect("its standard input is a pipe");
     let mut output = child.stdout.take().expect("its standard output is a pipe");
     let mut printed = Vec::new();

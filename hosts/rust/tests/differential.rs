@@ -216,15 +216,7 @@ fn every_election() {
 fn every_short_history() {
     let mut random = Random::new(SEED);
     let mut settlements = Tally::default();
-    let terms = Terms {
-        age: 50,
-        pension_age_years: 65,
-        pension_age_months: 0,
-        option: 2,
-        payer: 1,
-        term: 5,
-        amount: 1_000,
-    };
+    let terms = Terms { age: 50, pension_age_years: 65, pension_age_months: 0, option: 2, payer: 1, term: 5, amount: 1_000 };
     let odd = Terms { pension_age_months: 7, term: 1, ..terms };
     for count in 0..=7 {
         for history in 0..4_u32.pow(count) {

@@ -24,12 +24,13 @@ enum Call {
     Settle,
 }
 
-/// What a kind of contract has: its marks, whether the pension age has odd months, and what is changed to have it refused.
+/// What a kind of contract has: its marks, whether the pension age has odd months, its refusal, and what is changed for it.
 struct Kind {
     name: &'static str,
     call: Call,
     marks: usize,
     odd: bool,
+    refusal: u64,
     change: fn(&mut Contract),
 }
 
@@ -39,34 +40,34 @@ fn lump_sum(contract: &mut Contract) {
     contract.terms.term = 0;
 }
 
-const fn kind(name: &'static str, call: Call, marks: usize, odd: bool, change: fn(&mut Contract)) -> Kind {
-    Kind { name, call, marks, odd, change }
+const fn kind(name: &'static str, call: Call, marks: usize, odd: bool, refusal: u64, change: fn(&mut Contract)) -> Kind {
+    Kind { name, call, marks, odd, refusal, change }
 }
 
 const KINDS: [Kind; 21] = [
-    kind("settle, 5 marks, whole", Call::Settle, 5, false, as_it_is),
-    kind("settle, 5 marks, odd", Call::Settle, 5, true, as_it_is),
-    kind("settle, 28 marks, whole", Call::Settle, 28, false, as_it_is),
-    kind("settle, 28 marks, odd", Call::Settle, 28, true, as_it_is),
-    kind("settle, 60 marks, whole", Call::Settle, 60, false, as_it_is),
-    kind("settle, 60 marks, odd", Call::Settle, 60, true, as_it_is),
-    kind("settle, 240 marks, whole", Call::Settle, 240, false, as_it_is),
-    kind("settle, 240 marks, odd", Call::Settle, 240, true, as_it_is),
-    kind("settle, 240 in many runs, odd", Call::Settle, 240, true, |contract| {
+    kind("settle, 5 marks, whole", Call::Settle, 5, false, 0, as_it_is),
+    kind("settle, 5 marks, odd", Call::Settle, 5, true, 0, as_it_is),
+    kind("settle, 28 marks, whole", Call::Settle, 28, false, 0, as_it_is),
+    kind("settle, 28 marks, odd", Call::Settle, 28, true, 0, as_it_is),
+    kind("settle, 60 marks, whole", Call::Settle, 60, false, 0, as_it_is),
+    kind("settle, 60 marks, odd", Call::Settle, 60, true, 0, as_it_is),
+    kind("settle, 240 marks, whole", Call::Settle, 240, false, 0, as_it_is),
+    kind("settle, 240 marks, odd", Call::Settle, 240, true, 0, as_it_is),
+    kind("settle, 240 in many runs, odd", Call::Settle, 240, true, 0, |contract| {
         contract.marks.iter_mut().skip(2).step_by(4).for_each(|mark| *mark = 0);
     }),
-    kind("settle, lump sum", Call::Settle, 0, false, lump_sum),
-    kind("settle, refused 1", Call::Settle, 60, false, |contract| contract.terms.option = 3),
-    kind("settle, refused 7", Call::Settle, 60, false, |contract| contract.terms.amount += 1),
-    kind("settle, refused 10", Call::Settle, 241, false, as_it_is),
-    kind("settle, refused 12 at 239", Call::Settle, 240, true, |contract| contract.marks[226..239].fill(0)),
-    kind("quote, whole", Call::Quote, 0, false, as_it_is),
-    kind("quote, odd", Call::Quote, 0, true, as_it_is),
-    kind("quote, lump sum, odd", Call::Quote, 0, true, lump_sum),
-    kind("quote, refused 1", Call::Quote, 0, false, |contract| contract.terms.option = 3),
-    kind("quote, refused 5", Call::Quote, 0, false, |contract| contract.terms.age = 67),
-    kind("quote, refused 8", Call::Quote, 0, true, |contract| contract.existing = 6_400_01),
-    kind("quote, refused 9", Call::Quote, 0, true, |contract| contract.last_number = 999_999),
+    kind("settle, lump sum", Call::Settle, 0, false, 0, lump_sum),
+    kind("settle, refused 1", Call::Settle, 60, false, 1, |contract| contract.terms.option = 3),
+    kind("settle, refused 7", Call::Settle, 60, false, 7, |contract| contract.terms.amount += 1),
+    kind("settle, refused 10", Call::Settle, 241, false, 10, as_it_is),
+    kind("settle, refused 12 at 239", Call::Settle, 240, true, 12, |contract| contract.marks[226..239].fill(0)),
+    kind("quote, whole", Call::Quote, 0, false, 0, as_it_is),
+    kind("quote, odd", Call::Quote, 0, true, 0, as_it_is),
+    kind("quote, lump sum, odd", Call::Quote, 0, true, 0, lump_sum),
+    kind("quote, refused 1", Call::Quote, 0, false, 1, |contract| contract.terms.option = 3),
+    kind("quote, refused 5", Call::Quote, 0, false, 5, |contract| contract.terms.age = 67),
+    kind("quote, refused 8", Call::Quote, 0, true, 8, |contract| contract.existing = 6_400_01),
+    kind("quote, refused 9", Call::Quote, 0, true, 9, |contract| contract.last_number = 999_999),
 ];
 
 /// Contracts that run on after their marks, where a term can: 240 marks are a whole one of 20 years.
@@ -144,12 +145,14 @@ fn round(call: Call, contracts: &[Contract], run: fn(Call, &Contract, &mut [u8; 
     start.elapsed().as_nanos() as f64 / calls as f64
 }
 
-fn check(call: Call, contracts: &[Contract]) {
+/// Both give the same answer, and it is what the kind says.
+fn check(kind: &Kind, contracts: &[Contract]) {
     for contract in contracts {
         let (mut part, mut reference) = ([0; 48], [0; 48]);
-        part_call(call, contract, &mut part);
-        reference_call(call, contract, &mut reference);
-        assert_eq!(part, reference, "{:?}", contract.terms);
+        part_call(kind.call, contract, &mut part);
+        reference_call(kind.call, contract, &mut reference);
+        assert_eq!(part, reference, "{}: {:?}", kind.name, contract.terms);
+        assert_eq!(raw::number(&part, raw::SETTLE_REFUSAL), kind.refusal, "{}: {:?}", kind.name, contract.terms);
     }
 }
 
@@ -158,7 +161,7 @@ pub fn measure() {
     let mut lowest = f64::INFINITY;
     for kind in &KINDS {
         let contracts = contracts(kind);
-        check(kind.call, &contracts);
+        check(kind, &contracts);
         let (mut part, mut reference) = (f64::INFINITY, f64::INFINITY);
         for _ in 0..ROUNDS {
             part = part.min(round(kind.call, &contracts, part_call));

@@ -22,7 +22,7 @@ impl Random {
     /// A number from `least` to `most`.
     pub fn from_to(&mut self, least: u32, most: u32) -> u32 {
         let width = u64::from(most - least) + 1;
-        least + ((self.number() >> 32) * width >> 32) as u32
+        least + (((self.number() >> 32) * width) >> 32) as u32
     }
 
     /// True once in `times`, on average.
@@ -171,10 +171,16 @@ fn count(random: &mut Random, term: u32) -> usize {
     .expect("a count of months is small")
 }
 
-/// Marks for a contract of this term, one in three of them damaged.
+/// Marks for a contract of this term: some with a gap about as long as may be, one in three damaged.
 pub fn marks(random: &mut Random, term: u32) -> Vec<u8> {
     let count = count(random, term);
     let mut marks = lawful_marks(random, count);
+    if count > 14 && random.one_in(16) {
+        let gap = random.from_to(11, 13) as usize;
+        let start = random.from_to(1, (count - gap) as u32 - 1) as usize;
+        marks[start..start + gap].fill(MISSED);
+        marks[start + gap] = PAID;
+    }
     if count > 0 && random.one_in(3) {
         for _ in 0..random.from_to(1, 3) {
             let index = random.from_to(0, count as u32 - 1) as usize;
@@ -246,7 +252,7 @@ pub fn line(random: &mut Random, line: &mut Vec<u8>, election: u32) {
     }
 }
 
-/// Adds a file of `lines` lines of every shape, each with its end.
+/// A file of `lines` lines of every shape, each with its end.
 pub fn case_file(random: &mut Random, lines: u32) -> Vec<u8> {
     let mut file = Vec::new();
     let mut one = Vec::new();

@@ -63,7 +63,7 @@ impl Terms {
         if self.pension_age_months > 0 && self.rate(self.pension_age_years + 1).is_none() {
             return 6;
         }
-        if self.amount == 0 || self.amount % STEP != 0 {
+        if self.amount == 0 || !self.amount.is_multiple_of(STEP) {
             return 7;
         }
         match existing_pence.checked_add(self.amount_pence()) {

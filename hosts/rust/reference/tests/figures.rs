@@ -6,15 +6,8 @@ use reference::rounding::{blend, nearest};
 use reference::*;
 
 /// £1,250 over 9 years by table D67, age 50.
-const NINE_YEARS: Terms = Terms {
-    age: 50,
-    pension_age_years: 67,
-    pension_age_months: 0,
-    option: 2,
-    payer: 1,
-    term: 9,
-    amount: 1_250,
-};
+const NINE_YEARS: Terms =
+    Terms { age: 50, pension_age_years: 67, pension_age_months: 0, option: 2, payer: 1, term: 9, amount: 1_250 };
 
 /// £1,000 over 5 years by table D65, age 50.
 const FIVE_YEARS: Terms = Terms { pension_age_years: 65, term: 5, amount: 1_000, ..NINE_YEARS };

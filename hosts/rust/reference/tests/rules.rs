@@ -8,15 +8,8 @@ use reference::*;
 
 const SEED: u64 = 2015;
 
-const TERMS: Terms = Terms {
-    age: 50,
-    pension_age_years: 65,
-    pension_age_months: 0,
-    option: 2,
-    payer: 1,
-    term: 5,
-    amount: 1_000,
-};
+const TERMS: Terms =
+    Terms { age: 50, pension_age_years: 65, pension_age_months: 0, option: 2, payer: 1, term: 5, amount: 1_000 };
 
 #[test]
 fn tables_keep_the_print_rule_and_never_rise_along_a_row_or_fall_down_a_column() {
@@ -137,12 +130,15 @@ fn the_first_bad_mark_decides() {
     assert_eq!(first_bad(&twice), None);
 }
 
+type Runs = &'static [(usize, u8)];
+
+fn marks(runs: Runs) -> Vec<u8> {
+    runs.iter().flat_map(|&(count, mark)| std::iter::repeat_n(mark, count)).collect()
+}
+
 #[test]
 fn statuses() {
-    let marks = |runs: &[(usize, u8)]| -> Vec<u8> {
-        runs.iter().flat_map(|&(count, mark)| std::iter::repeat_n(mark, count)).collect()
-    };
-    let cases: [(u32, &[(usize, u8)], u32); 16] = [
+    let cases: [(u32, Runs, u32); 16] = [
         (5, &[], 0),
         (5, &[(1, 1)], 1),
         (5, &[(59, 1)], 1),

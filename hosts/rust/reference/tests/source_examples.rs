@@ -3,15 +3,8 @@
 use reference::credit::{month_value, row};
 use reference::*;
 
-const MEMBER: Terms = Terms {
-    age: 0,
-    pension_age_years: 67,
-    pension_age_months: 0,
-    option: 2,
-    payer: 1,
-    term: 9,
-    amount: 1_250,
-};
+const MEMBER: Terms =
+    Terms { age: 0, pension_age_years: 67, pension_age_months: 0, option: 2, payer: 1, term: 9, amount: 1_250 };
 
 fn contribution(terms: Terms) -> u64 {
     let quoted = quote(&terms, 0, 0);
