@@ -137,6 +137,8 @@ fn misreadings_are_avoided() {
     let blended = odd.contribution() * 25_000;
     let by_one_contribution = [65, 66].map(|table| nearest(blended, u64::from(monthly_rate(2, table, 50, 1).unwrap())));
     assert_ne!(settle(&odd, &[1; 12]).credit, blend(6, by_one_contribution[0], by_one_contribution[1]));
+    // Rounding only the total would give 111.30 here, from whole-year credits in pence and from exact ones alike.
+    assert_eq!(five_years(&[(1, 1), (1, 0), (5, 1)]).credit, 111_29);
     // Five paid months have a worth, and are nevertheless refunded after a notice.
     assert_eq!(settle(&NINE_YEARS, &[1, 1, 1, 1, 1, 2]).status, 5);
     // Twelve missed months are a stop, not a gap.
