@@ -35,7 +35,7 @@ fn example_4_odd_months() {
     assert_eq!(contribution(Terms { amount: 250, ..terms }), 36_53);
 }
 
-/// The note's cap is a year younger, £6,578; £1,121 is held by then, and the multiple is the same.
+/// The note works with the next year's cap, £6,578, and gets £5,457 of room; £6,500 leaves £5,379, the same multiple.
 #[test]
 fn example_5_room_under_the_cap() {
     assert_eq!(cap_decision(37_00 + 1_084_00), 5_250);
