@@ -1,0 +1,119 @@
+/*
+ * Additional Pension of the HSC Pension Scheme 2015: quoting an election and settling a contract.
+ *
+ * Link with libhost.a (x86-64). Both functions are proved to keep the scheme's rules for every number they are given. They
+ * allocate nothing, keep nothing between calls and end for every input; calls from several threads do not disturb each other.
+ *
+ * What a caller owes. Of the numbers, nothing: every number has an answer, and what the scheme does not allow is refused. Of
+ * the memory, what every C function is owed: a pointer stands for as many bytes as the length beside it says, nothing else
+ * writes them during the call, and the two pieces lent to ap_settle do not overlap. A piece needs no alignment.
+ */
+#ifndef ADDITIONAL_PENSION_H
+#define ADDITIONAL_PENSION_H
+
+#include <stddef.h>
+#include <stdint.h>
+
+#ifdef __cplusplus
+extern "C" {
+#endif
+
+/* Option: what is bought. */
+#define AP_OPTION_PERSONAL 1u
+#define AP_OPTION_WITH_DEPENDANT 2u
+
+/* Payer. An employer pays by lump sum. */
+#define AP_PAYER_MEMBER 1u
+#define AP_PAYER_EMPLOYER 2u
+
+/* Term 0 is a lump sum; 1 to 20 are years of monthly payments. */
+#define AP_TERM_LUMP_SUM 0u
+
+/* Marks: one for each elapsed month of a contract. */
+#define AP_MARK_MISSED 0u
+#define AP_MARK_PAID 1u
+#define AP_MARK_ENDED 2u
+
+/* Refusals. A short buffer comes before all others; then the first that applies is given, in the order of the numbers, and of
+ * two bad marks the one further left. */
+#define AP_REFUSED_NOTHING 0u
+#define AP_REFUSED_OPTION 1u         /* the option is not 1 or 2 */
+#define AP_REFUSED_PENSION_AGE 2u    /* the pension age is not from 65 years 0 months to 68 years 0 months, or months exceed 11 */
+#define AP_REFUSED_TERM 3u           /* the term is above 20 */
+#define AP_REFUSED_PAYER 4u          /* the payer is not 1 or 2, or an employer has a term above 0 */
+#define AP_REFUSED_NO_RATE 5u        /* no printed rate at this age: Table S, or the only or lower monthly table */
+#define AP_REFUSED_NO_UPPER_RATE 6u  /* no printed rate at this age in the upper monthly table */
+#define AP_REFUSED_AMOUNT 7u         /* the amount is 0 or not a multiple of 250 pounds */
+#define AP_REFUSED_CAP 8u            /* existing pension and the new amount exceed 6,500 pounds a year */
+#define AP_REFUSED_LAST_NUMBER 9u    /* ap_quote: the last number is 999,999 or more */
+#define AP_REFUSED_MARK_COUNT 10u    /* ap_settle: more marks than the term has months, or any for a lump sum */
+#define AP_REFUSED_MARK_VALUE 11u    /* ap_settle: the mark at the place is above 2 */
+#define AP_REFUSED_MARK_ORDER 12u    /* ap_settle: the mark at the place is not lawful after those before it */
+#define AP_REFUSED_SHORT_BUFFER 14u  /* the buffer is too short; it keeps its bytes */
+
+/* Statuses of a settled contract. */
+#define AP_STATUS_NOT_STARTED 0u  /* monthly, no marks */
+#define AP_STATUS_PAYING 1u       /* the last month is paid, the term is not over */
+#define AP_STATUS_IN_GAP 2u       /* one to eleven missed months at the end, the term is not over */
+#define AP_STATUS_COMPLETE 3u     /* every month of the term is paid */
+#define AP_STATUS_CEASED 4u       /* stopped, the last paid month being the twelfth or later: the credit stays */
+#define AP_STATUS_REFUNDED 5u     /* stopped earlier: what was paid goes back, the credit is 0 */
+#define AP_STATUS_LUMP_SUM 6u     /* a lump sum, credited in full */
+
+/* A quote's result: three numbers of 8 bytes, low byte first, at these offsets. */
+#define AP_QUOTE_REFUSAL 0u
+#define AP_QUOTE_CONTRIBUTION 8u  /* pence, by the month or as a lump sum */
+#define AP_QUOTE_NEXT_NUMBER 16u
+#define AP_QUOTE_BYTES 24u
+
+/* A settlement's result: six numbers of 8 bytes, low byte first, at these offsets. */
+#define AP_SETTLE_REFUSAL 0u
+#define AP_SETTLE_PLACE 8u          /* index from 0 of the mark refused with 11 or 12, else 0 */
+#define AP_SETTLE_CONTRIBUTION 16u  /* pence, by the month or as a lump sum */
+#define AP_SETTLE_STATUS 24u
+#define AP_SETTLE_CREDIT 32u        /* pence of pension a year */
+#define AP_SETTLE_REFUND 40u        /* pence */
+#define AP_SETTLE_BYTES 48u
+
+/*
+ * Quotes an election.
+ *
+ *   age             last birthday, whole years
+ *   pnpa_years      pension age: whole years
+ *   pnpa_months     pension age: odd months
+ *   option, payer   as above
+ *   term            0 for a lump sum, else years
+ *   amount          pension to buy, whole pounds a year
+ *   existing_pence  pension that counts towards the cap already, pence a year
+ *   last_number     the last quote number that the caller's register holds
+ *   out, out_len    where the result goes
+ *
+ * If out_len is below 24, the value is 14 and nothing is written. Otherwise the value is the refusal (0 to 9), and exactly the
+ * first 24 bytes of out are written: the refusal, the contribution and the next number, which is last_number + 1. A refusal
+ * gives 0 for both of them. The caller keeps the register: it stores the next number after a success and nothing after a
+ * refusal.
+ */
+uint32_t ap_quote(uint32_t age, uint32_t pnpa_years, uint32_t pnpa_months, uint32_t option, uint32_t payer,
+                  uint32_t term, uint32_t amount, uint64_t existing_pence, uint32_t last_number,
+                  uint8_t *out, size_t out_len);
+
+/*
+ * Settles a contract as its marks stand.
+ *
+ *   age to amount     as for ap_quote
+ *   marks, marks_len  one byte for each elapsed month, the first month first; they are read only
+ *   out, out_len      where the result goes
+ *
+ * If out_len is below 48, the value is 14 and nothing is written. Otherwise the value is the refusal (0 to 8, 10 to 12), and
+ * exactly the first 48 bytes of out are written: the refusal, its place, the contribution, the status, the credit and the
+ * refund. A refusal gives 0 for all after the place. The cap is looked at as if nothing else were held.
+ */
+uint32_t ap_settle(uint32_t age, uint32_t pnpa_years, uint32_t pnpa_months, uint32_t option, uint32_t payer,
+                   uint32_t term, uint32_t amount, const uint8_t *marks, size_t marks_len,
+                   uint8_t *out, size_t out_len);
+
+#ifdef __cplusplus
+}
+#endif
+
+#endif

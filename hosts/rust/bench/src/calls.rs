@@ -1,0 +1,175 @@
+//! Time per call of Settle and Quote.
+
+use additional_pension::raw::{self, Numbers};
+use reference::samples::Random;
+use reference::Terms;
+use std::hint::black_box;
+use std::time::{Duration, Instant};
+
+/// Different contracts of one kind, so that no call finds everything as the one before left it.
+const CONTRACTS: usize = 64;
+const ROUNDS: usize = 15;
+const ROUND: Duration = Duration::from_millis(15);
+
+struct Contract {
+    terms: Terms,
+    marks: Vec<u8>,
+    existing: u64,
+    last_number: u32,
+}
+
+#[derive(Clone, Copy)]
+enum Call {
+    Quote,
+    Settle,
+}
+
+/// What a kind of contract has: its marks, whether the pension age has odd months, its refusal, and what is changed for it.
+struct Kind {
+    name: &'static str,
+    call: Call,
+    marks: usize,
+    odd: bool,
+    refusal: u64,
+    change: fn(&mut Contract),
+}
+
+fn as_it_is(_: &mut Contract) {}
+
+fn lump_sum(contract: &mut Contract) {
+    contract.terms.term = 0;
+}
+
+const fn kind(name: &'static str, call: Call, marks: usize, odd: bool, refusal: u64, change: fn(&mut Contract)) -> Kind {
+    Kind { name, call, marks, odd, refusal, change }
+}
+
+const KINDS: [Kind; 21] = [
+    kind("settle, 5 marks, whole", Call::Settle, 5, false, 0, as_it_is),
+    kind("settle, 5 marks, odd", Call::Settle, 5, true, 0, as_it_is),
+    kind("settle, 28 marks, whole", Call::Settle, 28, false, 0, as_it_is),
+    kind("settle, 28 marks, odd", Call::Settle, 28, true, 0, as_it_is),
+    kind("settle, 60 marks, whole", Call::Settle, 60, false, 0, as_it_is),
+    kind("settle, 60 marks, odd", Call::Settle, 60, true, 0, as_it_is),
+    kind("settle, 240 marks, whole", Call::Settle, 240, false, 0, as_it_is),
+    kind("settle, 240 marks, odd", Call::Settle, 240, true, 0, as_it_is),
+    kind("settle, 240 in many runs, odd", Call::Settle, 240, true, 0, |contract| {
+        contract.marks.iter_mut().skip(2).step_by(4).for_each(|mark| *mark = 0);
+    }),
+    kind("settle, lump sum", Call::Settle, 0, false, 0, lump_sum),
+    kind("settle, refused 1", Call::Settle, 60, false, 1, |contract| contract.terms.option = 3),
+    kind("settle, refused 7", Call::Settle, 60, false, 7, |contract| contract.terms.amount += 1),
+    kind("settle, refused 10", Call::Settle, 241, false, 10, as_it_is),
+    kind("settle, refused 12 at 239", Call::Settle, 240, true, 12, |contract| contract.marks[226..239].fill(0)),
+    kind("quote, whole", Call::Quote, 0, false, 0, as_it_is),
+    kind("quote, odd", Call::Quote, 0, true, 0, as_it_is),
+    kind("quote, lump sum, odd", Call::Quote, 0, true, 0, lump_sum),
+    kind("quote, refused 1", Call::Quote, 0, false, 1, |contract| contract.terms.option = 3),
+    kind("quote, refused 5", Call::Quote, 0, false, 5, |contract| contract.terms.age = 67),
+    kind("quote, refused 8", Call::Quote, 0, true, 8, |contract| contract.existing = 6_400_01),
+    kind("quote, refused 9", Call::Quote, 0, true, 9, |contract| contract.last_number = 999_999),
+];
+
+/// Contracts that run on after their marks, where a term can: 240 marks are a whole one of 20 years.
+fn contracts(kind: &Kind) -> Vec<Contract> {
+    let mut random = Random::new(kind.marks as u64 + 1);
+    let least = (kind.marks as u32 / 12 + 1).min(20);
+    let make = |_| {
+        let term = random.from_to(least, 20);
+        let pension_age_years = random.from_to(65, 67);
+        let terms = Terms {
+            age: random.from_to(16, 64 - term),
+            pension_age_years,
+            pension_age_months: if kind.odd { random.from_to(1, 11) } else { 0 },
+            option: random.from_to(1, 2),
+            payer: 1,
+            term,
+            amount: 250 * random.from_to(1, 26),
+        };
+        let mut marks = vec![1; kind.marks];
+        if kind.marks >= 28 {
+            marks[18..22].fill(0);
+        }
+        let mut contract = Contract { terms, marks, existing: 0, last_number: random.from_to(0, 999_998) };
+        (kind.change)(&mut contract);
+        contract
+    };
+    (0..CONTRACTS).map(make).collect()
+}
+
+fn numbers(terms: &Terms) -> Numbers {
+    Numbers {
+        age: terms.age,
+        pension_age_years: terms.pension_age_years,
+        pension_age_months: terms.pension_age_months,
+        option: terms.option,
+        payer: terms.payer,
+        term: terms.term,
+        amount: terms.amount,
+    }
+}
+
+fn part_call(call: Call, contract: &Contract, out: &mut [u8; 48]) {
+    let terms = numbers(&contract.terms);
+    match call {
+        Call::Quote => raw::quote(&terms, contract.existing, contract.last_number, &mut out[..24]),
+        Call::Settle => raw::settle(&terms, &contract.marks, out),
+    };
+}
+
+/// The same work: an answer as bytes in a buffer.
+fn reference_call(call: Call, contract: &Contract, out: &mut [u8; 48]) {
+    match call {
+        Call::Quote => {
+            let answer = reference::quote(&contract.terms, contract.existing, contract.last_number);
+            out[..24].copy_from_slice(&answer.bytes());
+        }
+        Call::Settle => *out = reference::settle(&contract.terms, &contract.marks).bytes(),
+    }
+}
+
+/// Nanoseconds per call over one round of at least [`ROUND`].
+fn round(call: Call, contracts: &[Contract], run: fn(Call, &Contract, &mut [u8; 48])) -> f64 {
+    let mut out = [0; 48];
+    let mut calls = 0;
+    let start = Instant::now();
+    while start.elapsed() < ROUND {
+        for _ in 0..16 {
+            for contract in contracts {
+                run(call, black_box(contract), &mut out);
+                black_box(&mut out);
+            }
+        }
+        calls += 16 * contracts.len();
+    }
+    start.elapsed().as_nanos() as f64 / calls as f64
+}
+
+/// Both give the same answer, and it is what the kind says.
+fn check(kind: &Kind, contracts: &[Contract]) {
+    for contract in contracts {
+        let (mut part, mut reference) = ([0; 48], [0; 48]);
+        part_call(kind.call, contract, &mut part);
+        reference_call(kind.call, contract, &mut reference);
+        assert_eq!(part, reference, "{}: {:?}", kind.name, contract.terms);
+        assert_eq!(raw::number(&part, raw::SETTLE_REFUSAL), kind.refusal, "{}: {:?}", kind.name, contract.terms);
+    }
+}
+
+pub fn measure() {
+    println!("{:<32}{:>10}{:>12}{:>9}", "nanoseconds per call", "part", "reference", "ratio");
+    let mut lowest = f64::INFINITY;
+    for kind in &KINDS {
+        let contracts = contracts(kind);
+        check(kind, &contracts);
+        let (mut part, mut reference) = (f64::INFINITY, f64::INFINITY);
+        for _ in 0..ROUNDS {
+            part = part.min(round(kind.call, &contracts, part_call));
+            reference = reference.min(round(kind.call, &contracts, reference_call));
+        }
+        let ratio = reference / part;
+        lowest = lowest.min(ratio);
+        println!("{:<32}{part:>10.1}{reference:>12.1}{ratio:>9.2}", kind.name);
+    }
+    println!("lowest ratio of the calls: {lowest:.2}\n");
+}

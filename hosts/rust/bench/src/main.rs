@@ -1,0 +1,12 @@
+//! The proved part against the plain Rust reference, same inputs, both built for release.
+//!
+//! Ratios are the part's speed over the reference's: above 1 the part is faster. Each time is the best of several rounds, in
+//! which part and reference take turns.
+
+mod calls;
+mod programs;
+
+fn main() {
+    calls::measure();
+    programs::measure();
+}

@@ -1,0 +1,116 @@
+//! The library's two calls as they are: numbers and bytes.
+
+/// The bytes of a quote's result: numbers of 8 bytes, low byte first.
+pub const QUOTE_BYTES: usize = 24;
+pub const QUOTE_REFUSAL: usize = 0;
+pub const QUOTE_CONTRIBUTION: usize = 8;
+pub const QUOTE_NEXT_NUMBER: usize = 16;
+
+/// The bytes of a settlement: numbers of 8 bytes, low byte first.
+pub const SETTLE_BYTES: usize = 48;
+pub const SETTLE_REFUSAL: usize = 0;
+pub const SETTLE_PLACE: usize = 8;
+pub const SETTLE_CONTRIBUTION: usize = 16;
+pub const SETTLE_STATUS: usize = 24;
+pub const SETTLE_CREDIT: usize = 32;
+pub const SETTLE_REFUND: usize = 40;
+
+/// The value of a call whose buffer is too short.
+pub const SHORT_BUFFER: u32 = 14;
+
+/// An election as numbers. Every number has an answer.
+#[derive(Clone, Copy, Debug, PartialEq, Eq)]
+pub struct Numbers {
+    pub age: u32,
+    pub pension_age_years: u32,
+    pub pension_age_months: u32,
+    /// 1 personal, 2 with dependant's pension.
+    pub option: u32,
+    /// 1 member, 2 employer.
+    pub payer: u32,
+    /// 0 for a lump sum, else the years of monthly payments.
+    pub term: u32,
+    /// Whole pounds a year.
+    pub amount: u32,
+}
+
+mod linked {
+    extern "C" {
+        pub fn ap_quote(
+            age: u32,
+            pnpa_years: u32,
+            pnpa_months: u32,
+            option: u32,
+            payer: u32,
+            term: u32,
+            amount: u32,
+            existing_pence: u64,
+            last_number: u32,
+            out: *mut u8,
+            out_len: usize,
+        ) -> u32;
+
+        pub fn ap_settle(
+            age: u32,
+            pnpa_years: u32,
+            pnpa_months: u32,
+            option: u32,
+            payer: u32,
+            term: u32,
+            amount: u32,
+            marks: *const u8,
+            marks_len: usize,
+            out: *mut u8,
+            out_len: usize,
+        ) -> u32;
+    }
+}
+
+/// Quotes into the first [`QUOTE_BYTES`] of `out`; the rest stays. The value is the refusal, 0 for none. A shorter `out` keeps
+/// its bytes, and the value is [`SHORT_BUFFER`].
+pub fn quote(terms: &Numbers, existing_pence: u64, last_number: u32, out: &mut [u8]) -> u32 {
+    // SAFETY: the call asks nothing of its numbers; `out` is lent for its length and for the call.
+    unsafe {
+        linked::ap_quote(
+            terms.age,
+            terms.pension_age_years,
+            terms.pension_age_months,
+            terms.option,
+            terms.payer,
+            terms.term,
+            terms.amount,
+            existing_pence,
+            last_number,
+            out.as_mut_ptr(),
+            out.len(),
+        )
+    }
+}
+
+/// Settles into the first [`SETTLE_BYTES`] of `out`; the rest stays. The value is the refusal, 0 for none. A shorter `out` keeps
+/// its bytes, and the value is [`SHORT_BUFFER`].
+pub fn settle(terms: &Numbers, marks: &[u8], out: &mut [u8]) -> u32 {
+    // SAFETY: the call asks nothing of its numbers; `marks` and `out` are lent for their lengths and for the call, and a
+    // mutable slice overlaps no other.
+    unsafe {
+        linked::ap_settle(
+            terms.age,
+            terms.pension_age_years,
+            terms.pension_age_months,
+            terms.option,
+            terms.payer,
+            terms.term,
+            terms.amount,
+            marks.as_ptr(),
+            marks.len(),
+            out.as_mut_ptr(),
+            out.len(),
+        )
+    }
+}
+
+/// The number at one of the offsets of a result.
+pub fn number(result: &[u8], offset: usize) -> u64 {
+    let bytes = result[offset..offset + 8].try_into().expect("eight bytes");
+    u64::from_le_bytes(bytes)
+}

@@ -1,0 +1,256 @@
+//! The library's two calls against the reference, over made-up inputs and over every lawful election.
+//!
+//! Each call gets its marks and its buffer within a larger piece of memory, at any alignment. All of that memory is compared
+//! afterwards, so a byte changed before, after or in the marks counts as a difference just as a wrong result does.
+//! `AP_INPUTS` sets how many inputs are made up.
+
+use additional_pension::raw::{self, Numbers};
+use reference::samples::{self, Random};
+use reference::Terms;
+use std::env;
+use std::fmt::Debug;
+
+const SEED: u64 = 20_150_331;
+const INPUTS: u64 = 2_000_000;
+
+/// Bytes on either side of a lent piece of memory.
+const MARGIN: usize = 64;
+
+fn inputs() -> u64 {
+    let given = env::var("AP_INPUTS").ok();
+    given.map_or(INPUTS, |number| number.parse().expect("AP_INPUTS is a number"))
+}
+
+fn numbers(terms: &Terms) -> Numbers {
+    Numbers {
+        age: terms.age,
+        pension_age_years: terms.pension_age_years,
+        pension_age_months: terms.pension_age_months,
+        option: terms.option,
+        payer: terms.payer,
+        term: terms.term,
+        amount: terms.amount,
+    }
+}
+
+/// Memory of which a piece is lent: what stands around it must stay.
+struct Lent {
+    bytes: Vec<u8>,
+    start: usize,
+    length: usize,
+}
+
+impl Lent {
+    fn new(random: &mut Random, length: usize) -> Lent {
+        let start = MARGIN + random.from_to(0, 7) as usize;
+        let mut bytes = Vec::with_capacity(start + length + MARGIN);
+        while bytes.len() < start + length + MARGIN {
+            bytes.extend(random.number().to_le_bytes());
+        }
+        Lent { bytes, start, length }
+    }
+
+    fn holding(random: &mut Random, content: &[u8]) -> Lent {
+        let mut lent = Lent::new(random, content.len());
+        lent.piece().copy_from_slice(content);
+        lent
+    }
+
+    fn piece(&mut self) -> &mut [u8] {
+        &mut self.bytes[self.start..self.start + self.length]
+    }
+}
+
+/// A length for a result's buffer: exact, with room to spare, or too short.
+fn buffer_length(random: &mut Random, exact: usize) -> usize {
+    match random.from_to(0, 9) {
+        0 => random.from_to(0, exact as u32 - 1) as usize,
+        1 => exact - 1,
+        2 => exact + 1,
+        3 | 4 => exact + random.from_to(1, 100) as usize,
+        _ => exact,
+    }
+}
+
+/// What was met, and what differed.
+#[derive(Default)]
+struct Tally {
+    inputs: u64,
+    refusals: [u64; 16],
+    statuses: [u64; 7],
+    longest: usize,
+    differences: u64,
+}
+
+impl Tally {
+    fn compare<T: PartialEq + Debug>(&mut self, input: impl Debug, part: T, reference: T) {
+        if part == reference {
+            return;
+        }
+        self.differences += 1;
+        if self.differences <= 5 {
+            println!("difference at {input:?}\n  part      {part:?}\n  reference {reference:?}");
+        }
+    }
+
+    fn print(&self, call: &str) {
+        println!("{call}: {} inputs, {} differences", self.inputs, self.differences);
+        println!("  refusals: {}", Self::list(&self.refusals));
+        if self.statuses.iter().any(|count| *count > 0) {
+            println!("  statuses: {}", Self::list(&self.statuses));
+            println!("  most marks in one input: {}", self.longest);
+        }
+    }
+
+    fn list(counts: &[u64]) -> String {
+        let met = counts.iter().enumerate().filter(|(_, count)| **count > 0);
+        met.map(|(number, count)| format!("{number}: {count}")).collect::<Vec<_>>().join(", ")
+    }
+
+    /// Every refusal of the call has been met, and no other. Number 6 has no input: the upper table has a rate wherever the
+    /// lower has one. Number 13 belongs to contract records, which have no call.
+    fn assert_met(&self, refusals: &[usize]) {
+        for number in 0..self.refusals.len() {
+            assert_eq!(self.refusals[number] > 0, refusals.contains(&number), "refusal {number}");
+        }
+    }
+}
+
+/// One quote: its value, and all the memory it was lent.
+fn compare_quote(random: &mut Random, tally: &mut Tally, terms: &Terms, existing: u64, last_number: u32, length: usize) {
+    let mut out = Lent::new(random, length);
+    let mut expected = out.bytes.clone();
+    let answer = reference::quote(terms, existing, last_number);
+    let value = if length < raw::QUOTE_BYTES { raw::SHORT_BUFFER } else { answer.refusal };
+    if length >= raw::QUOTE_BYTES {
+        expected[out.start..out.start + raw::QUOTE_BYTES].copy_from_slice(&answer.bytes());
+    }
+    let given = raw::quote(&numbers(terms), existing, last_number, out.piece());
+    tally.inputs += 1;
+    tally.refusals[value as usize] += 1;
+    tally.compare((terms, existing, last_number, length), (given, out.bytes), (value, expected));
+}
+
+/// One settlement: its value, and all the memory it was lent, marks included.
+fn compare_settle(random: &mut Random, tally: &mut Tally, terms: &Terms, marks: &[u8], length: usize) {
+    let mut lent_marks = Lent::holding(random, marks);
+    let marks_before = lent_marks.bytes.clone();
+    let mut out = Lent::new(random, length);
+    let mut expected = out.bytes.clone();
+    let answer = reference::settle(terms, marks);
+    let value = if length < raw::SETTLE_BYTES { raw::SHORT_BUFFER } else { answer.refusal };
+    if length >= raw::SETTLE_BYTES {
+        expected[out.start..out.start + raw::SETTLE_BYTES].copy_from_slice(&answer.bytes());
+    }
+    let given = raw::settle(&numbers(terms), lent_marks.piece(), out.piece());
+    tally.inputs += 1;
+    tally.refusals[value as usize] += 1;
+    tally.longest = tally.longest.max(marks.len());
+    if value == 0 {
+        tally.statuses[answer.status as usize] += 1;
+    }
+    tally.compare((terms, marks, length), (given, out.bytes, lent_marks.bytes), (value, expected, marks_before));
+}
+
+/// Marks of any length, far past every term too.
+fn any_marks(random: &mut Random, term: u32) -> Vec<u8> {
+    if random.one_in(500) {
+        let length = random.from_to(1, 20_000) as usize;
+        return (0..length).map(|_| random.byte()).collect();
+    }
+    samples::marks(random, term)
+}
+
+#[test]
+fn made_up_inputs() {
+    let mut random = Random::new(SEED);
+    let mut quotes = Tally::default();
+    let mut settlements = Tally::default();
+    for _ in 0..inputs() / 2 {
+        let terms = samples::terms(&mut random);
+        let existing = samples::existing(&mut random, terms.amount);
+        let last_number = samples::last_number(&mut random);
+        let length = buffer_length(&mut random, raw::QUOTE_BYTES);
+        compare_quote(&mut random, &mut quotes, &terms, existing, last_number, length);
+
+        let terms = samples::terms(&mut random);
+        let marks = any_marks(&mut random, terms.term);
+        let length = buffer_length(&mut random, raw::SETTLE_BYTES);
+        compare_settle(&mut random, &mut settlements, &terms, &marks, length);
+    }
+    quotes.print("made-up quotes");
+    settlements.print("made-up settlements");
+    quotes.assert_met(&[0, 1, 2, 3, 4, 5, 7, 8, 9, 14]);
+    settlements.assert_met(&[0, 1, 2, 3, 4, 5, 7, 8, 10, 11, 12, 14]);
+    assert!(settlements.statuses.iter().all(|count| *count > 0), "every status is met");
+    assert_eq!(quotes.differences + settlements.differences, 0);
+}
+
+/// Every age, pension age, option and term, in and about their ranges, with an amount that changes from one to the next: so
+/// every printed rate is used, as a whole-year credit too.
+#[test]
+fn every_election() {
+    let mut random = Random::new(SEED);
+    let mut quotes = Tally::default();
+    let mut settlements = Tally::default();
+    let pension_ages = (64..=69).flat_map(|years| (0..=12).map(move |months| (years, months)));
+    for (pension_age_years, pension_age_months) in pension_ages {
+        for (option, term) in (1..=2).flat_map(|option| (0..=20).map(move |term| (option, term))) {
+            for age in 14..=70 {
+                let amount = 250 * random.from_to(1, 26);
+                let terms = Terms { age, pension_age_years, pension_age_months, option, payer: 1, term, amount };
+                compare_quote(&mut random, &mut quotes, &terms, 0, 0, raw::QUOTE_BYTES);
+                let count = random.from_to(0, 12 * term) as usize;
+                let marks = samples::lawful_marks(&mut random, count);
+                compare_settle(&mut random, &mut settlements, &terms, &marks, raw::SETTLE_BYTES);
+            }
+        }
+    }
+    quotes.print("every election, quoted");
+    settlements.print("every election, settled");
+    assert_eq!(quotes.differences + settlements.differences, 0);
+}
+
+/// Every list of up to seven marks from 0 to 3, and every place for a bad mark in a full contract.
+#[test]
+fn every_short_history() {
+    let mut random = Random::new(SEED);
+    let mut settlements = Tally::default();
+    let terms = Terms { age: 50, pension_age_years: 65, pension_age_months: 0, option: 2, payer: 1, term: 5, amount: 1_000 };
+    let odd = Terms { pension_age_months: 7, term: 1, ..terms };
+    for count in 0..=7 {
+        for history in 0..4_u32.pow(count) {
+            let marks: Vec<u8> = (0..count).map(|month| (history >> (2 * month) & 3) as u8).collect();
+            compare_settle(&mut random, &mut settlements, &terms, &marks, raw::SETTLE_BYTES);
+            compare_settle(&mut random, &mut settlements, &odd, &marks, raw::SETTLE_BYTES);
+        }
+    }
+    for place in 0..60 {
+        for mark in 0..=255 {
+            let mut marks = [1; 60];
+            marks[place] = mark;
+            compare_settle(&mut random, &mut settlements, &terms, &marks, raw::SETTLE_BYTES);
+        }
+    }
+    settlements.print("short histories");
+    assert_eq!(settlements.differences, 0);
+}
+
+/// Every length of a buffer that is too short, and some that are not.
+#[test]
+fn every_buffer_length() {
+    let mut random = Random::new(SEED);
+    let mut quotes = Tally::default();
+    let mut settlements = Tally::default();
+    for length in 0..200 {
+        for _ in 0..20 {
+            let terms = samples::terms(&mut random);
+            compare_quote(&mut random, &mut quotes, &terms, 0, 0, length);
+            let marks = samples::marks(&mut random, terms.term);
+            compare_settle(&mut random, &mut settlements, &terms, &marks, length);
+        }
+    }
+    assert_eq!(quotes.refusals[14], 20 * 24);
+    assert_eq!(settlements.refusals[14], 20 * 48);
+    assert_eq!(quotes.differences + settlements.differences, 0);
+}

@@ -1,0 +1,77 @@
+//! The wrapper's types over the library: figures, refusals and words.
+
+use additional_pension::*;
+
+const TERMS: Terms = Terms {
+    age: 50,
+    pension_age: PensionAge { years: 65, months: 0 },
+    option: PensionOption::WithDependant,
+    payer: Payer::Member,
+    term: 5,
+    amount: 1_000,
+};
+
+#[test]
+fn a_quote() {
+    let quoted = quote(&TERMS, Pension(0), 41).unwrap();
+    assert_eq!(quoted, Quote { contribution: Contribution(242_00), next_number: 42 });
+    assert_eq!(quote(&TERMS, Pension(5_500_00), 0).unwrap().next_number, 1);
+}
+
+#[test]
+fn a_settlement() {
+    let mut marks = vec![PAID; 18];
+    marks.extend([MISSED; 4]);
+    marks.extend([PAID; 6]);
+    let settled = settle(&TERMS, &marks).unwrap();
+    assert_eq!((settled.status, settled.credit, settled.refund), (Status::Paying, Pension(429_61), Contribution(0)));
+    let refunded = settle(&TERMS, &[PAID, PAID, ENDED]).unwrap();
+    assert_eq!((refunded.status, refunded.credit, refunded.refund), (Status::Refunded, Pension(0), Contribution(484_00)));
+}
+
+#[test]
+fn every_status() {
+    let lump_sum = Terms { term: 0, payer: Payer::Employer, ..TERMS };
+    let statuses = [
+        settle(&TERMS, &[]),
+        settle(&TERMS, &[PAID]),
+        settle(&TERMS, &[PAID, MISSED]),
+        settle(&TERMS, &[PAID; 60]),
+        settle(&TERMS, &[[PAID; 12], [MISSED; 12]].concat()),
+        settle(&TERMS, &[ENDED]),
+        settle(&lump_sum, &[]),
+    ]
+    .map(|settled| settled.unwrap().status);
+    assert_eq!(statuses.map(Status::number), [0, 1, 2, 3, 4, 5, 6]);
+    assert_eq!(
+        statuses.map(|status| status.to_string()),
+        ["not started", "paying", "in a gap", "complete", "ceased", "refunded", "lump sum"]
+    );
+}
+
+#[test]
+fn refusals() {
+    let refused = [
+        quote(&Terms { pension_age: PensionAge { years: 68, months: 1 }, ..TERMS }, Pension(0), 0).unwrap_err(),
+        quote(&Terms { term: 21, ..TERMS }, Pension(0), 0).unwrap_err(),
+        quote(&Terms { payer: Payer::Employer, ..TERMS }, Pension(0), 0).unwrap_err(),
+        quote(&Terms { age: 60, ..TERMS }, Pension(0), 0).unwrap_err(),
+        quote(&Terms { amount: 1_100, ..TERMS }, Pension(0), 0).unwrap_err(),
+        quote(&TERMS, Pension(u64::MAX), 0).unwrap_err(),
+        quote(&TERMS, Pension(0), 999_999).unwrap_err(),
+        settle(&TERMS, &[PAID; 61]).unwrap_err(),
+        settle(&TERMS, &[PAID, 3]).unwrap_err(),
+        settle(&TERMS, &[MISSED]).unwrap_err(),
+    ];
+    assert_eq!(refused.map(|refusal| refusal.number()), [2, 3, 4, 5, 7, 8, 9, 10, 11, 12]);
+    assert_eq!(refused[8], Refusal::UnknownMark { place: 1 });
+    assert_eq!(refused[9], Refusal::UnlawfulMark { place: 0 });
+    let error: Box<dyn std::error::Error> = Box::new(refused[8]);
+    assert_eq!(error.to_string(), "the mark at 1 is unknown");
+}
+
+#[test]
+fn money_in_words() {
+    assert_eq!(Pension(71_05).to_string(), "£71.05 a year");
+    assert_eq!(Contribution(9).to_string(), "£0.09");
+}
