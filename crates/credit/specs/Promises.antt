@@ -23,7 +23,7 @@ pub record MonthValue (years : List ℕ) (month : ℕ) (r : PensionPence) : Type
   pub fits : r .0 < 2 ^ 32
 
 -- what a state has to keep to for its sum to fit: few enough marks, each of which earned less than 2 ^ 32 pence
-pub record Within (e : Earned) : Type 0 where
+pub record EarnedWithin (e : Earned) : Type 0 where
   pub few : e .month < 2 ^ 31
   pub small : e .sum .0 ≤ e .month * 2 ^ 32
 

@@ -7,7 +7,7 @@ ghost use Rattle.money.specs.Money.{pension};
 ghost use Rattle.credit.specs.Years.{unit};
 ghost use Rattle.credit.specs.Priced.{purchase, Priced};
 ghost use Rattle.credit.specs.Earned.{nothingYet};
-ghost use Rattle.credit.specs.Promises.{YearCredits, MonthValue, Within, CreditAt, After};
+ghost use Rattle.credit.specs.Promises.{YearCredits, MonthValue, EarnedWithin, CreditAt, After};
 ghost use Rattle.credit.specs.Credit.{creditOver};
 use money::ContributionPence;
 use money::PensionPence;
@@ -81,7 +81,7 @@ pub fn nothing_yet() -> Earned
 
 // The credit if no mark follows: an open run ends at the present month.
 pub fn credit_at(e: Earned, years: [u32; 21]) -> PensionPence
-    requires { ⌜ Within e ⌝ }
+    requires { ⌜ EarnedWithin e ⌝ }
     ensures { λ r. ⌜ CreditAt years e r ⌝ }
 {
     let sum = e.sum;
@@ -93,7 +93,7 @@ pub fn credit_at(e: Earned, years: [u32; 21]) -> PensionPence
 
 // One mark more. The years are looked at only where a run closes.
 pub fn after_mark(e: Earned, years: [u32; 21], mark: u8) -> Earned
-    requires { ⌜ Within e ⌝ }
+    requires { ⌜ EarnedWithin e ⌝ }
     ensures { λ r. ⌜ After years e mark r ⌝ }
 {
     if mark == 1 {

@@ -12,7 +12,7 @@ use lib.ListN.{length, take, getD, List·getD-append}
 use lib.Seq.{take-all, take-append-le, take-append-seam, take-take, getD-append-seam}
 use Rattle.marks.specs.Counts.{lastOr, paidMonths, paidThrough, finalGap}
 use Rattle.marks.specs.Lawful.{Lawful, FirstBad}
-use Rattle.marks.specs.Reading.{refusedOf, nextRefusalOf, afterMark, stepBy, stepOf, readOn, readingOf, countsOf}
+use Rattle.marks.specs.Reading.{refusedOf, nextRefusalOf, countMark, stepBy, stepOf, readOn, readingOf, countsOf}
 use Rattle.common.proofs.Tests.{by-test}
 use Rattle.marks.proofs.Lists.{by-the-last, length-last}
 use Rattle.marks.proofs.Counts.{counts-missed, counts-paid, counts-ended}
@@ -27,7 +27,7 @@ data Next (ms : List ℕ) (m : ℕ) : Type 0 where
       → ((n ≡ 11) × (2 < m)) ⊎ ((n ≡ 12) × (m ≤ 2)) → Next ms m
 
 next : (ms : List ℕ) (m : ℕ) → Next ms m
-unfolding stepBy nextRefusalOf afterMark
+unfolding stepBy nextRefusalOf countMark
 next ms zero =
     by-test (eqb (lastOr 0 ms) 2)
     (λ t. is-bad 12 (rw t) (λ f. omega (arith, f .ends (eqb-true (lastOr 0 ms) 2 t))) (inr (refl, omega arith)))

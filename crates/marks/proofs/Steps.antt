@@ -11,8 +11,8 @@ use lib.Dec.{ltb, eqb}
 use lib.ListN.{length, take, getD}
 use lib.Seq.{take-suc, length-take-le}
 use Rattle.marks.specs.declared.Reading.{Reading}
-use Rattle.marks.specs.Reading.{refusedOf, startOf, nextRefusalOf, afterMissed, afterPaid, afterEnded, afterMark}
-use Rattle.marks.specs.Reading.{stepBy, stepOf, oneMore, readOn, readingOf, Within}
+use Rattle.marks.specs.Reading.{refusedOf, startOf, nextRefusalOf, afterMissed, afterPaid, afterEnded, countMark}
+use Rattle.marks.specs.Reading.{stepBy, stepOf, oneMore, readOn, readingOf, ReadingWithin}
 use Rattle.marks.proofs.Cases.{either}
 use Rattle.marks.proofs.Lists.{by-the-last, length-last}
 
@@ -29,13 +29,13 @@ pub reading-take : (ms : List ℕ) (i : ℕ) → i < length ms
     → readingOf (take (suc i) ms) ≡ stepOf (readingOf (take i ms)) (getD ms i 0)
 reading-take ms i h = rw (take-suc ms i 0) (reading-last (take i ms) (getD ms i 0))
 
-pub refused-within : (n i k : ℕ) → Within (refusedOf n i) k
+pub refused-within : (n i k : ℕ) → ReadingWithin (refusedOf n i) k
 refused-within n i k = omega arith
 
-step-within : (r : Reading) (m n : ℕ) → Within r n → Within (stepOf r m) (suc n)
-unfolding stepBy afterMark
+step-within : (r : Reading) (m n : ℕ) → ReadingWithin r n → ReadingWithin (stepOf r m) (suc n)
+unfolding stepBy countMark
 step-within r m n h =
-    let In : Reading → Type 0 = λ s. Within s (suc n) in
+    let In : Reading → Type 0 = λ s. ReadingWithin s (suc n) in
     let stays : In r = omega arith in
     let missed : In (afterMissed suc r) = omega arith in
     let paid : In (afterPaid suc r) = omega arith in
@@ -44,10 +44,10 @@ step-within r m n h =
     (either In (ltb 0 (nextRefusalOf r m)) (refused-within _ _ _)
     (either In (eqb m 0) missed (either In (eqb m 1) paid ended)))
 
-pub reading-within : (ms : List ℕ) → Within (readingOf ms) (length ms)
+pub reading-within : (ms : List ℕ) → ReadingWithin (readingOf ms) (length ms)
 unfolding readOn
 reading-within ms =
-    by-the-last (λ (xs : List ℕ). Within (readingOf xs) (length xs))
+    by-the-last (λ (xs : List ℕ). ReadingWithin (readingOf xs) (length xs))
     (λ xs x p. rw (reading-last xs x, length-last xs x) (step-within (readingOf xs) x (length xs) p))
     (refused-within 0 0 0)
     ms
@@ -60,10 +60,10 @@ one-more-exact n h = rw (lt-ltb n (2 ^ 64 - 1) h) (add-one n)
 -- the code's step, after the marks of a list
 pub step-last : (ms : List ℕ) (m : ℕ) → length ms < 2 ^ 64 - 1
     → stepBy oneMore (readingOf ms) m ≡ readingOf (ms ++ (m ∷ []))
-unfolding stepBy afterMark
+unfolding stepBy countMark
 step-last ms m h =
     let r = readingOf ms in
-    let w : Within r (length ms) = reading-within ms in
+    let w : ReadingWithin r (length ms) = reading-within ms in
     let up : (n : ℕ) → n ≤ length ms → oneMore n ≡ suc n = λ n p. one-more-exact n (omega arith) in
     rw (reading-last ms m, up (r .count) (omega arith), up (r .paid) (omega arith), up (r .gap) (omega arith))
 

@@ -63,14 +63,14 @@ module _ (more : ℕ → ℕ) (r : Reading) where
         last = 2;
       }
 
-  unfoldable pub afterMark : ℕ → Reading
-  afterMark m = pick (eqb m 0) afterMissed (pick (eqb m 1) afterPaid afterEnded)
+  unfoldable pub countMark : ℕ → Reading
+  countMark m = pick (eqb m 0) afterMissed (pick (eqb m 1) afterPaid afterEnded)
 
   -- Settle: a bad mark is refused at its index, and what is refused stays so
   unfoldable pub stepBy : ℕ → Reading
   stepBy m =
       pick (ltb 0 (r .refusal)) r
-      (pick (ltb 0 (nextRefusalOf r m)) (refusedOf (nextRefusalOf r m) (r .count)) (afterMark m))
+      (pick (ltb 0 (nextRefusalOf r m)) (refusedOf (nextRefusalOf r m) (r .count)) (countMark m))
 
 -- one more mark
 abbrev pub stepOf : Reading → ℕ → Reading
@@ -107,7 +107,7 @@ countsOf ms =
     }
 
 -- the bounds of a reading of at most n marks
-pub record Within (r : Reading) (n : ℕ) : Type 0 where
+pub record ReadingWithin (r : Reading) (n : ℕ) : Type 0 where
   pub count-most : r .count ≤ n
   pub parts-most : r .through + r .gap ≤ r .count
   pub paid-most : r .paid ≤ r .through

@@ -1,6 +1,6 @@
 // The marks of a contract, read from the left, and the contract's status.
 ghost use mathlib.Core.Path.{_≡_};
-ghost use Rattle.marks.specs.Reading.{refusedOf, startOf, oneMore, nextRefusalOf, afterMark, stepBy, marksOf};
+ghost use Rattle.marks.specs.Reading.{refusedOf, startOf, oneMore, nextRefusalOf, countMark, stepBy, marksOf};
 ghost use Rattle.marks.specs.Status.{stoppedOf, statusFrom};
 
 // What the marks read so far say; or a refusal and its place, and zeros.
@@ -79,7 +79,7 @@ fn next_refusal(r: Reading, mark: u8) -> u32
 
 // The counts with a mark that is not refused.
 fn counted(r: Reading, mark: u8) -> Reading
-    ensures { λ out. ⌜ out ≡ afterMark oneMore r mark ⌝ }
+    ensures { λ out. ⌜ out ≡ countMark oneMore r mark ⌝ }
 {
     let count = one_more(r.count);
     if mark == 0 {

@@ -9,7 +9,7 @@ use lib.Dec.{ltb}
 use lib.ListN.{getD}
 use borrow.Author.Tests.{ltb-false, le-ltb}
 use Rattle.common.specs.Choice.{pick}
-use Rattle.rates.specs.Rates.{entryOf}
+use Rattle.rates.specs.Rates.{cellOf}
 
 -- an age that has a line, and a term that has a place in it
 pub record Placed (age term : ℕ) : Type 0 where
@@ -22,8 +22,8 @@ pub record Placed (age term : ℕ) : Type 0 where
 abbrev pub place : ℕ → ℕ → ℕ
 place age term = (age - 16) * 20 + (term - 1)
 
-pub entry-at : (table : List ℕ) (age term : ℕ) → Placed age term → entryOf table age term ≡ getD table (place age term) 0
-unfolding entryOf
+pub entry-at : (table : List ℕ) (age term : ℕ) → Placed age term → cellOf table age term ≡ getD table (place age term) 0
+unfolding cellOf
 entry-at table age term h =
     rw (le-ltb age 16 (h .age-low), le-ltb 66 age (h .age-high), le-ltb term 1 (h .term-low), le-ltb 20 term (h .term-high))
 
@@ -32,8 +32,8 @@ pub chosen : (b : Bool) (n : ℕ) → 0 < pick b 0 n → (b ≡ false) × (0 < n
 chosen true n h = absurd (omega arith)
 chosen false n h = (refl, h)
 
-pub entry-placed : (table : List ℕ) (age term : ℕ) → 0 < entryOf table age term → Placed age term
-unfolding entryOf
+pub entry-placed : (table : List ℕ) (age term : ℕ) → 0 < cellOf table age term → Placed age term
+unfolding cellOf
 entry-placed table age term h =
     let a = chosen (ltb age 16) _ h in
     let b = chosen (ltb 66 age) _ (a .1) in
@@ -45,6 +45,6 @@ zeros : (b : Bool) → pick {A = ℕ} b 0 0 ≡ 0
 zeros true = refl
 zeros false = refl
 
-pub entry-none : (age term : ℕ) → entryOf [] age term ≡ 0
-unfolding entryOf
+pub entry-none : (age term : ℕ) → cellOf [] age term ≡ 0
+unfolding cellOf
 entry-none age term = simp zeros

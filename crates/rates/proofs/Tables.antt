@@ -11,7 +11,7 @@ use lib.ListN.{replicate}
 use borrow.Author.Tests.{eqb-true}
 use Rattle.common.specs.Choice.{pick}
 use Rattle.common.specs.Table.{tabulate}
-use Rattle.rates.specs.Rates.{ofFour, tableOf, entryOf, rateOf, rowOf}
+use Rattle.rates.specs.Rates.{ofFour, tableOf, cellOf, rateOf, rowOf}
 use Rattle.rates.proofs.Entries.{entry-none}
 
 -- an option and a pension age that have a table
@@ -41,7 +41,7 @@ known-or-empty o p =
 
 -- the line of the table is the row of rates; no table, a row of zeros
 pub row-chosen : {row : List ℕ} {option pensionAge : ℕ} (o p age : ℕ) → option ≡ o → pensionAge ≡ p
-    → row ≡ tabulate (entryOf (tableOf o p) age) 1 20 → row ≡ rowOf option pensionAge age
+    → row ≡ tabulate (cellOf (tableOf o p) age) 1 20 → row ≡ rowOf option pensionAge age
 unfolding rowOf rateOf
 row-chosen o p age eo ep e = rw (eo, ep) e
 

@@ -22,15 +22,15 @@ tableOf option pensionAge =
     (pick (eqb option 2) (ofFour pensionAge d65 d66 d67 d68) [])
 
 -- 'Rates': the entry of a monthly table, which has a line for each age from 16 to 66 and in it a place for each term from 1 to 20
-unfoldable pub entryOf : List ℕ → ℕ → ℕ → ℕ
-entryOf table age term =
+unfoldable pub cellOf : List ℕ → ℕ → ℕ → ℕ
+cellOf table age term =
     pick (ltb age 16) 0
     (pick (ltb 66 age) 0
     (pick (ltb term 1) 0 (pick (ltb 20 term) 0 (getD table ((age - 16) * 20 + (term - 1)) 0))))
 
 -- 'Rates': the monthly rate, 0 where none is printed
 unfoldable pub rateOf : ℕ → ℕ → ℕ → ℕ → ℕ
-rateOf option pensionAge age term = entryOf (tableOf option pensionAge) age term
+rateOf option pensionAge age term = cellOf (tableOf option pensionAge) age term
 
 -- 'Rates': the monthly rates at an age, for the terms 1 to 20
 unfoldable pub rowOf : ℕ → ℕ → ℕ → List ℕ

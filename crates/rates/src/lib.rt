@@ -1,7 +1,7 @@
 // The published rates, in pence per £250 of pension a year: a row of monthly rates, the rate for a term, a lump sum.
 ghost use mathlib.Core.Path.{_≡_};
 ghost use Rattle.common.specs.Table.{tabulate};
-ghost use Rattle.rates.specs.Rates.{entryOf, rowOf, rateIn, lumpRateOf};
+ghost use Rattle.rates.specs.Rates.{cellOf, rowOf, rateIn, lumpRateOf};
 
 mod dependant;
 mod lump_sum;
@@ -9,7 +9,7 @@ mod personal;
 
 // The line of a monthly table for an age; zeros where it has none.
 fn row_at(table: &[u32; 1020], age: u32) -> [u32; 20]
-    ensures { λ r. ⌜ r ≡ tabulate (entryOf (now (table .entry)) age) 1 20 ⌝ }
+    ensures { λ r. ⌜ r ≡ tabulate (cellOf (now (table .entry)) age) 1 20 ⌝ }
 {
     let mut row = [0u32; 20];
     if age < 16 {

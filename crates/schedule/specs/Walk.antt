@@ -13,7 +13,7 @@ use Rattle.marks.specs.Status.{statusFrom}
 use Rattle.marks.specs.Reading.{oneMore, stepBy, marksOf}
 use Rattle.credit.specs.Years.{unit, yearCredits}
 use Rattle.credit.specs.Earned.{nothingYet, creditAt, afterMark, afterMarks}
-use Rattle.credit.specs.Promises.{Within}
+use Rattle.credit.specs.Promises.{EarnedWithin}
 use Rattle.settlement.specs.Credit.{purchaseIn}
 use Rattle.settlement.specs.Settle.{settleRefusal}
 use Rattle.schedule.specs.declared.Walk.{Walk}
@@ -56,8 +56,8 @@ heldOf t w lower upper =
 
 -- what `held` asks: credits that fit
 pub record Holdable (w : Walk) (lower upper : List ℕ) : Type 0 where
-  pub lower-within : Within (w .lower)
-  pub upper-within : Within (w .upper)
+  pub lower-within : EarnedWithin (w .lower)
+  pub upper-within : EarnedWithin (w .upper)
   pub lower-fits : creditAt nearest lower (w .lower) < 2 ^ 32
   pub upper-fits : creditAt nearest upper (w .upper) < 2 ^ 32
 

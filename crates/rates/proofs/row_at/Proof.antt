@@ -9,24 +9,24 @@ use borrow.Author.Needs.{needs}
 use Rattle.common.specs.Table.{tabulate}
 use Rattle.common.proofs.Table.{is-tabulate, one-more}
 use Rattle.common.proofs.Tests.{tests}
-use Rattle.rates.specs.Rates.{entryOf}
+use Rattle.rates.specs.Rates.{cellOf}
 use Rattle.rates.proofs.Entries.{place, entry-at}
 use Rattle.rates.proofs.row_at.Statement.{statement}
 use Rattle.rates.proofs.row_at.Tie as tie
 
 abbrev Inv-loop : tie.InvT-loop
 Inv-loop table age row₀ start k₀ row k =
-    (k ≤ 20) × (length row ≡ 20) × ((n : ℕ) → n < k → getD row n 0 ≡ entryOf table age (1 + n))
+    (k ≤ 20) × (length row ≡ 20) × ((n : ℕ) → n < k → getD row n 0 ≡ cellOf table age (1 + n))
 
 abbrev μ-loop : tie.MeasureT-loop
 μ-loop table age row₀ start k₀ row k = 20 - k
 
 returns : tie.Need-returns Inv-loop μ-loop
-unfolding tabulate entryOf
+unfolding tabulate cellOf
 returns c = search tests
 
 returns-2 : tie.Need-returns-2 Inv-loop μ-loop
-unfolding tabulate entryOf
+unfolding tabulate cellOf
 returns-2 c = search tests
 
 mul-start : tie.Need-mul-start Inv-loop μ-loop
@@ -60,7 +60,7 @@ loop-less : tie.Need-loop-less Inv-loop μ-loop
 loop-less c = search needs
 
 -- the entry for the term k + 1 is k places on in the line
-next : (table : List ℕ) (age k : ℕ) → 16 ≤ age → age ≤ 66 → k < 20 → getD table ((age - 16) * 20 + k) 0 ≡ entryOf table age (1 + k)
+next : (table : List ℕ) (age k : ℕ) → 16 ≤ age → age ≤ 66 → k < 20 → getD table ((age - 16) * 20 + k) 0 ≡ cellOf table age (1 + k)
 next table age k low high h =
     let same : (age - 16) * 20 + k ≡ place age (1 + k) = omega arith in
     rw same (sym (entry-at table age (1 + k) (omega arith)))
@@ -69,7 +69,7 @@ loop-again : tie.Need-loop-again Inv-loop μ-loop
 loop-again c =
     let l = c .before .before .loop in
     let a = c .before .before .before .before .before .args in
-    let entry = entryOf (a .table .now) (a .age) in
+    let entry = cellOf (a .table .now) (a .age) in
     let more = one-more (l .row) (λ (n : ℕ). entry (1 + n)) (l .k) _ (omega arith) (l .inv .2) (next _ _ _ (omega arith) (omega arith) (omega arith)) in
     (omega arith, simp length-set (l .inv .1), more)
 
