@@ -1,0 +1,65 @@
+-- What callers use of the stream: a chunk's counts, and that calls on the chunks of a file write its listing.
+-- Assumes nothing.
+use mathlib.Core.Bool.{Bool, true, false}
+use mathlib.Core.List.{List, [], _∷_, _++_, append-assoc}
+use mathlib.Core.Path.{_≡_, refl, sym, ap, _∙_}
+use Prim.Native.Nat.{ℕ, zero, suc, _+_, _/_, _<_, _≤_}
+use native.Mathlib.Omega.{arith}
+use lib.Dec.{eqb}
+use lib.ListN.{length, take, drop, length-append}
+use lib.Seq.{take-at}
+use Rattle.common.specs.Choice.{pick}
+use Rattle.casefile.specs.declared.stream.OpenLine.{OpenLine}
+use Rattle.casefile.specs.declared.stream.ChunkSettled.{ChunkSettled}
+use Rattle.casefile.specs.File.{listingOf}
+use Rattle.casefile.specs.Stream.{openAfter, writtenBy, writtenAtEnd, takenWith, bytesOf, ChunkTold, Calls, at-end, on-chunk}
+use Rattle.casefile.proofs.Chunks.{open-append, written-append, listing-from, written-kept, end-kept}
+
+taken-choice : (t : Bool) (a b n : ℕ) → a ≤ n → b ≤ n → suc (pick t a b) ≤ suc n
+taken-choice true a b n p q = omega arith
+taken-choice false a b n p q = omega arith
+
+taken-within : (n : ℕ) (l : List ℕ) → takenWith n l ≤ length l
+unfolding takenWith
+taken-within zero l = omega arith
+taken-within (suc n) [] = omega arith
+taken-within (suc n) (b ∷ l) = taken-choice (eqb b 10) _ _ _ (taken-within n l) (taken-within (suc n) l)
+
+taken-some : (n : ℕ) (l : List ℕ) → 0 < n → 0 < length l → 0 < takenWith n l
+unfolding takenWith
+taken-some zero l p q = absurd (omega arith)
+taken-some (suc n) [] p q = absurd (omega arith)
+taken-some (suc n) (b ∷ l) p q = omega arith
+
+module _ {o : OpenLine} {chunk out out′ : List ℕ} {r : ChunkSettled} (told : ChunkTold o chunk out out′ r) where
+  -- no more is taken than there is, and something where a line fits
+  pub chunk-taken : r .taken ≤ length chunk
+  chunk-taken = omega (arith, told .taken, taken-within (length out / 46) chunk)
+
+  pub chunk-moves : 46 ≤ length out → 0 < length chunk → 0 < r .taken
+  chunk-moves h k = omega (arith, told .taken, taken-some (length out / 46) chunk (omega arith) k)
+
+  pub chunk-wrote : r .wrote ≤ length out′
+  chunk-wrote = omega (arith, told .wrote, ap length (told .written) ∙ length-append (writtenBy (bytesOf o) (take (r .taken) chunk)) (drop (r .wrote) out))
+
+  written-is : take (r .wrote) out′ ≡ writtenBy (bytesOf o) (take (r .taken) chunk)
+  written-is = ap (take (r .wrote)) (told .written) ∙ take-at (writtenBy (bytesOf o) (take (r .taken) chunk)) (drop (r .wrote) out) (r .wrote) (sym (told .wrote))
+
+calls-write : {o : OpenLine} {file written : List ℕ} → Calls o file written
+    → written ≡ writtenBy (bytesOf o) file ++ writtenAtEnd (openAfter (bytesOf o) file)
+unfolding openAfter writtenBy
+calls-write (at-end told) = told .written
+calls-write {o} (on-chunk {chunk = chunk} {out = out} {out′ = out′} {rest = rest} {written = written} {r = r} told calls) =
+    let p = bytesOf o in
+    let part = take (r .taken) chunk in
+    let q = openAfter p part in
+    let later : written ≡ writtenBy q rest ++ writtenAtEnd (openAfter q rest) =
+        calls-write calls ∙ rw (told .after, written-kept q rest, end-kept q rest) in
+    rw (written-is told, later)
+    (sym (append-assoc (writtenBy p part) (writtenBy q rest) (writtenAtEnd (openAfter q rest)))
+    ∙ sym (rw (written-append p part rest, open-append p part rest)))
+
+-- calls that begin with no open line write the listing of all that they work through
+pub calls-list : {o : OpenLine} {file written : List ℕ} → bytesOf o ≡ [] → Calls o file written → written ≡ listingOf file
+unfolding listingOf
+calls-list {o} {file} e calls = calls-write calls ∙ rw e (sym (listing-from [] file))

@@ -1,0 +1,190 @@
+-- A chunk settled line by line.
+-- Assumes nothing.
+use mathlib.Core.List.{List, [], _∷_, _++_, append-assoc, append-nil}
+use mathlib.Core.Path.{_≡_, refl, sym, ap, subst, _∙_}
+use Prim.Native.Nat.{ℕ, zero, suc, _+_, _-_, _/_, _<_, _≤_}
+use native.Mathlib.Nat.{zero-add, sub-zero}
+use native.Mathlib.Numerals.{add-one}
+use native.Mathlib.Omega.{arith}
+use lib.ListN.{length, getD, take, drop, length-append, length-drop, take-append-drop, drop-of-length-le}
+use lib.Seq.{paste, length-paste, take-all, take-at, take-add, drop-cons, drop-drop, drop-append-add, length-take-le}
+use Rattle.casefile.specs.declared.stream.OpenLine.{OpenLine}
+use Rattle.casefile.specs.Line.{lineOf}
+use Rattle.casefile.specs.Stream.{openAfter, writtenBy, takenWith, bytesOf, ChunkTold}
+use Rattle.casefile.specs.Told.{NoEnd, EndFound, Kept}
+use Rattle.casefile.proofs.Shapes.{length-line}
+use Rattle.casefile.proofs.Chunks.{open-append, written-append, line-kept, kept-more}
+use Rattle.casefile.proofs.Ends.{next-byte, no-end-open, no-end-written, no-end-taken, end-open, end-written}
+
+-- the loop's state: p was open as the chunk began and `old` was lent; `taken` bytes are worked through
+pub record Settling (p chunk old bytes out : List ℕ) (len taken wrote : ℕ) : Type 0 where
+  pub within : taken ≤ length chunk
+  pub small : len ≤ 286
+  pub bytes-long : length bytes ≡ 286
+  pub out-long : length out ≡ length old
+  pub room : wrote ≤ length old
+  pub kept : take len bytes ≡ take 286 (openAfter p (take taken chunk))
+  pub count : wrote ≡ length (writtenBy p (take taken chunk))
+  pub written : out ≡ writtenBy p (take taken chunk) ++ drop wrote old
+  pub ahead : takenWith (length old / 46) chunk ≡ taken + takenWith ((length old - wrote) / 46) (drop taken chunk)
+
+pub at-start : (bytes chunk old : List ℕ) (len : ℕ) → length bytes ≡ 286 → len ≤ 286 → Settling (take len bytes) chunk old bytes old len 0 0
+unfolding openAfter writtenBy
+at-start bytes chunk old len long small =
+    record {
+      within = omega arith;
+      small = small;
+      bytes-long = long;
+      out-long = refl;
+      room = omega arith;
+      kept = sym (take-all 286 (take len bytes) (omega (arith, length-take-le len bytes (omega arith))));
+      count = refl;
+      written = refl;
+      ahead = rw (sub-zero (length old), zero-add (takenWith (length old / 46) chunk));
+    }
+
+-- the bytes from `taken` to the line end that was found
+module _ (chunk : List ℕ) (taken end : ℕ) (f : EndFound chunk taken end) where
+  length-part : length (take (end - taken) (drop taken chunk)) ≡ end - taken
+  length-part = length-take-le (end - taken) (drop taken chunk) (omega (arith, length-drop taken chunk, f .within, f .after))
+
+  passed : take end chunk ≡ take taken chunk ++ take (end - taken) (drop taken chunk)
+  passed =
+      let at : end ≡ taken + (end - taken) = omega (arith, f .after) in
+      ap (λ (n : ℕ). take n chunk) at ∙ take-add taken (end - taken) chunk
+
+  ahead-of : drop taken chunk ≡ take (end - taken) (drop taken chunk) ++ drop end chunk
+  ahead-of =
+      let at : taken + (end - taken) ≡ end = omega (arith, f .after) in
+      sym (take-append-drop (end - taken) (drop taken chunk))
+      ∙ ap (λ (r : List ℕ). take (end - taken) (drop taken chunk) ++ r) (drop-drop (end - taken) taken chunk ∙ ap (λ (n : ℕ). drop n chunk) at)
+
+  module _ (h : end < length chunk) where
+    passed-end : take (end + 1) chunk ≡ take taken chunk ++ (take (end - taken) (drop taken chunk) ++ (10 ∷ []))
+    passed-end =
+        let at : end + 1 ≡ taken + suc (end - taken) = omega (arith, f .after) in
+        ap (λ (n : ℕ). take n chunk) at ∙ take-add taken (suc (end - taken)) chunk
+        ∙ ap (λ (r : List ℕ). take taken chunk ++ r) (next-byte chunk taken end (f .after) h
+        ∙ ap (λ (b : ℕ). take (end - taken) (drop taken chunk) ++ (b ∷ [])) (f .ends h))
+
+    ahead-end : drop taken chunk ≡ take (end - taken) (drop taken chunk) ++ 10 ∷ drop (end + 1) chunk
+    ahead-end =
+        ahead-of
+        ∙ ap (λ (r : List ℕ). take (end - taken) (drop taken chunk) ++ r)
+        (drop-cons chunk end 0 h ∙ ap (λ (b : ℕ). b ∷ drop (suc end) chunk) (f .ends h) ∙ ap (λ (n : ℕ). 10 ∷ drop n chunk) (sym (add-one end)))
+
+-- what is kept of an open line tells the same line
+kept-line : (q part : List ℕ) → lineOf (take 286 q ++ part) ≡ lineOf (q ++ part)
+kept-line q part = sym (line-kept (take 286 q ++ part)) ∙ ap lineOf (sym (kept-more 286 q part)) ∙ line-kept (q ++ part)
+
+-- a line more behind what is written
+row-more : (w old out row : List ℕ) (wrote : ℕ) → wrote ≡ length w → out ≡ w ++ drop wrote old → length row ≡ 46
+    → paste out wrote row 46 ≡ (w ++ row) ++ drop (wrote + 46) old
+row-more w old out row wrote n e long =
+    let there : take wrote out ≡ w = ap (take wrote) e ∙ take-at w (drop wrote old) wrote (sym n) in
+    let behind : drop (wrote + 46) out ≡ drop (wrote + 46) old =
+        ap (drop (wrote + 46)) e ∙ ap (λ (k : ℕ). drop (k + 46) (w ++ drop wrote old)) n ∙ drop-append-add w (drop wrote old) 46 ∙ drop-drop 46 wrote old in
+    rw (there, behind, take-all 46 row (omega arith))
+
+-- the n-th line end is that much nearer
+taken-more : (n : ℕ) (part rest : List ℕ) → NoEnd part → takenWith (suc n) (part ++ 10 ∷ rest) ≡ length part + suc (takenWith n rest)
+unfolding takenWith
+taken-more n part rest h = no-end-taken n part (10 ∷ rest) h
+
+module _ {p chunk old bytes out : List ℕ} {len taken wrote : ℕ} (s : Settling p chunk old bytes out len taken wrote)
+    (end : ℕ) (f : EndFound chunk taken end) (free : 46 ≤ length out - wrote) where
+  -- a line ends
+  pub line-ended : (bytes′ row out′ : List ℕ) → end < length chunk → length bytes′ ≡ length bytes
+      → row ≡ lineOf (take len bytes ++ take (end - taken) (drop taken chunk)) → out′ ≡ paste out wrote row 46
+      → Settling p chunk old bytes′ out′ 0 (end + 1) (wrote + 46)
+  line-ended bytes′ row out′ h long is e =
+      let part = take (end - taken) (drop taken chunk) in
+      let q = openAfter p (take taken chunk) in
+      let w = writtenBy p (take taken chunk) in
+      let row-is : row ≡ lineOf (q ++ part) = is ∙ ap (λ (r : List ℕ). lineOf (r ++ part)) (s .kept) ∙ kept-line q part in
+      let row-long : length row ≡ 46 = ap length row-is ∙ length-line (q ++ part) in
+      let opened : openAfter p (take (end + 1) chunk) ≡ [] =
+          ap (openAfter p) (passed-end chunk taken end f h) ∙ open-append p (take taken chunk) (part ++ (10 ∷ [])) ∙ end-open q part (f .before) in
+      let listed : writtenBy p (take (end + 1) chunk) ≡ w ++ row =
+          ap (writtenBy p) (passed-end chunk taken end f h) ∙ written-append p (take taken chunk) (part ++ (10 ∷ []))
+          ∙ ap (λ (r : List ℕ). w ++ r) (end-written q part (f .before) ∙ sym row-is) in
+      let n = (length old - (wrote + 46)) / 46 in
+      let lines : (length old - wrote) / 46 ≡ suc ((length old - (wrote + 46)) / 46) = omega (arith, s .out-long) in
+      let more : takenWith ((length old - wrote) / 46) (drop taken chunk) ≡ (end - taken) + suc (takenWith ((length old - (wrote + 46)) / 46) (drop (end + 1) chunk)) =
+          ap (λ (k : ℕ). takenWith k (drop taken chunk)) lines ∙ ap (takenWith (suc n)) (ahead-end chunk taken end f h)
+          ∙ taken-more n part (drop (end + 1) chunk) (f .before) ∙ ap (λ (k : ℕ). k + suc (takenWith n (drop (end + 1) chunk))) (length-part chunk taken end f) in
+      record {
+        within = omega arith;
+        small = omega arith;
+        bytes-long = long ∙ s .bytes-long;
+        out-long = ap length e ∙ length-paste out wrote row 46 (omega (arith, s .out-long)) (omega arith) ∙ s .out-long;
+        room = omega (arith, s .out-long);
+        kept = sym (ap (take 286) opened);
+        count = sym (ap length listed ∙ length-append w row ∙ omega (arith, s .count));
+        written = e ∙ row-more w old out row wrote (s .count) (s .written) row-long ∙ ap (λ (r : List ℕ). r ++ drop (wrote + 46) old) (sym listed);
+        ahead = s .ahead ∙ ap (λ (k : ℕ). taken + k) more ∙ omega (arith, f .after);
+      }
+
+  -- the line goes on past the chunk
+  pub line-goes-on : (bytes′ : List ℕ) (r : ℕ) → length bytes′ ≡ length bytes → Kept bytes len (take (end - taken) (drop taken chunk)) bytes′ r
+      → Settling p chunk old bytes′ out r end wrote
+  line-goes-on bytes′ r long k =
+      let part = take (end - taken) (drop taken chunk) in
+      let q = openAfter p (take taken chunk) in
+      let w = writtenBy p (take taken chunk) in
+      let opened : openAfter p (take end chunk) ≡ q ++ part =
+          ap (openAfter p) (passed chunk taken end f) ∙ open-append p (take taken chunk) part ∙ no-end-open q part (f .before) in
+      let listed : writtenBy p (take end chunk) ≡ w =
+          ap (writtenBy p) (passed chunk taken end f) ∙ written-append p (take taken chunk) part
+          ∙ ap (λ (x : List ℕ). w ++ x) (no-end-written q part (f .before)) ∙ append-nil w in
+      let n = (length old - (wrote + 46)) / 46 in
+      let lines : (length old - wrote) / 46 ≡ suc ((length old - (wrote + 46)) / 46) = omega (arith, s .out-long) in
+      let more : takenWith ((length old - wrote) / 46) (drop taken chunk) ≡ (end - taken) + takenWith ((length old - wrote) / 46) (drop end chunk) =
+          ap (takenWith ((length old - wrote) / 46)) (ahead-of chunk taken end f) ∙ ap (λ (k : ℕ). takenWith k (part ++ drop end chunk)) lines
+          ∙ no-end-taken n part (drop end chunk) (f .before)
+          ∙ ap (λ (k : ℕ). k + takenWith (suc n) (drop end chunk)) (length-part chunk taken end f)
+          ∙ ap (λ (k : ℕ). (end - taken) + takenWith k (drop end chunk)) (sym lines) in
+      record {
+        within = f .within;
+        small = k .small;
+        bytes-long = long ∙ s .bytes-long;
+        out-long = s .out-long;
+        room = s .room;
+        kept = k .are ∙ ap (λ (x : List ℕ). take 286 (x ++ part)) (s .kept) ∙ sym (kept-more 286 q part) ∙ ap (take 286) (sym opened);
+        count = s .count ∙ ap length (sym listed);
+        written = s .written ∙ ap (λ (x : List ℕ). x ++ drop wrote old) (sym listed);
+        ahead = s .ahead ∙ ap (λ (k : ℕ). taken + k) more ∙ omega (arith, f .after);
+      }
+
+taken-none : (n : ℕ) → takenWith n [] ≡ 0
+unfolding takenWith
+taken-none zero = refl
+taken-none (suc n) = refl
+
+no-room : (l : List ℕ) → takenWith 0 l ≡ 0
+unfolding takenWith
+no-room l = refl
+
+module _ (o : OpenLine) {p chunk old bytes out : List ℕ} {len taken wrote : ℕ} (e : p ≡ bytesOf o) (s′ : Settling p chunk old bytes out len taken wrote) where
+  s : Settling (bytesOf o) chunk old bytes out len taken wrote
+  s = subst (λ (q : List ℕ). Settling q chunk old bytes out len taken wrote) e s′
+
+  at-stop : takenWith ((length old - wrote) / 46) (drop taken chunk) ≡ 0
+      → ChunkTold o chunk old out (record { after = record { bytes = bytes; len = len }; taken = taken; wrote = wrote })
+  at-stop none =
+      record {
+        taken = sym (s .ahead ∙ omega (arith, none));
+        after = s .kept;
+        wrote = s .count;
+        written = s .written;
+      }
+
+  -- the chunk is through
+  pub at-end : length chunk ≤ taken → ChunkTold o chunk old out (record { after = record { bytes = bytes; len = len }; taken = taken; wrote = wrote })
+  at-end h = at-stop (ap (takenWith _) (drop-of-length-le chunk h) ∙ taken-none _)
+
+  -- no further line fits
+  pub at-full : length out - wrote < 46 → ChunkTold o chunk old out (record { after = record { bytes = bytes; len = len }; taken = taken; wrote = wrote })
+  at-full h =
+      let none : (length old - wrote) / 46 ≡ 0 = omega (arith, s .out-long) in
+      at-stop (ap (λ (k : ℕ). takenWith k (drop taken chunk)) none ∙ no-room (drop taken chunk))

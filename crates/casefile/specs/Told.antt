@@ -1,0 +1,44 @@
+-- What the steps of settling a line and a chunk promise each other.
+-- Assumes nothing.
+use mathlib.Core.Bool.{Bool, true}
+use mathlib.Core.List.{List, [], _∷_, _++_}
+use mathlib.Core.Path.{_≡_}
+use Prim.Native.Nat.{ℕ, _-_, _≤_, _<_}
+use lib.ListN.{length, getD, take, drop}
+use Rattle.settlement.specs.Settle.{SettleNumbers}
+use Rattle.casefile.specs.declared.line.Figures.{Figures}
+use Rattle.casefile.specs.Shape.{allDigits, marksIn}
+
+-- whether all are digits, and their numbers where they are
+pub record MarksTold (digits marks : List ℕ) (r : Bool) : Type 0 where
+  pub told : r ≡ allDigits digits
+  pub are : r ≡ true → take (length digits) marks ≡ marksIn digits
+
+-- the figures of a line as Settle's numbers
+abbrev pub figuresOf : Figures → SettleNumbers
+figuresOf f =
+    record {
+      refusal = f .refusal;
+      place = f .place;
+      contribution = f .contribution;
+      status = f .status;
+      credit = f .credit;
+      refund = f .refund;
+    }
+
+-- no byte ends a line
+pub data NoEnd : List ℕ → Type 0 where
+  none : NoEnd []
+  more : {b : ℕ} {bs : List ℕ} → (b ≡ 10 → ⊥) → NoEnd bs → NoEnd (b ∷ bs)
+
+-- the line that goes on at `start` ends at r, or does not end in the chunk
+pub record EndFound (chunk : List ℕ) (start r : ℕ) : Type 0 where
+  pub after : start ≤ r
+  pub within : r ≤ length chunk
+  pub before : NoEnd (take (r - start) (drop start chunk))
+  pub ends : r < length chunk → getD chunk r 0 ≡ 10
+
+-- r bytes are kept of an open line and a part that follows it
+pub record Kept (bytes : List ℕ) (len : ℕ) (part bytes′ : List ℕ) (r : ℕ) : Type 0 where
+  pub small : r ≤ 286
+  pub are : take r bytes′ ≡ take 286 (take len bytes ++ part)

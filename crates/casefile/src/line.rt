@@ -1,0 +1,179 @@
+// One line of the case file to one line of the listing.
+ghost use mathlib.Core.Path.{_≡_};
+ghost use Prim.Native.Nat.{_≤_};
+ghost use lib.ListN.{length};
+ghost use Rattle.settlement.specs.Settle.{numbersOf};
+ghost use Rattle.casefile.specs.Shape.{fieldsOf};
+ghost use Rattle.casefile.specs.Line.{listedAs, wrongShape, lineOf};
+ghost use Rattle.casefile.specs.Told.{MarksTold, figuresOf};
+use election::Terms;
+use settlement::Settlement;
+use text::Field;
+
+// What the fields before the marks say.
+pub struct Case {
+    pub election: u32,
+    pub terms: Terms,
+}
+
+pub enum Fields {
+    Whole(Case),
+    WrongShape,
+}
+
+// What a line of the listing says after its election number.
+pub struct Figures {
+    pub refusal: u64,
+    pub place: u64,
+    pub contribution: u64,
+    pub status: u64,
+    pub credit: u64,
+    pub refund: u64,
+}
+
+// Bytes before the marks, and the most that a line has.
+const FIELDS: usize = 29;
+const LONGEST: usize = 285;
+
+fn read_fields(line: &[u8]) -> Fields
+    requires { ⌜ 29 ≤ length (now line) ⌝ }
+    ensures { λ r. ⌜ r ≡ fieldsOf (now (line .entry)) ⌝ }
+{
+    let Field::Number(election) = text::number_in(&line[0..6]) else {
+        return Fields::WrongShape;
+    };
+    let Field::Number(age) = text::number_in(&line[6..9]) else {
+        return Fields::WrongShape;
+    };
+    let Field::Number(years) = text::number_in(&line[9..12]) else {
+        return Fields::WrongShape;
+    };
+    let Field::Number(months) = text::number_in(&line[12..15]) else {
+        return Fields::WrongShape;
+    };
+    let Field::Number(option) = text::number_in(&line[15..17]) else {
+        return Fields::WrongShape;
+    };
+    let Field::Number(payer) = text::number_in(&line[17..19]) else {
+        return Fields::WrongShape;
+    };
+    let Field::Number(term) = text::number_in(&line[19..22]) else {
+        return Fields::WrongShape;
+    };
+    let Field::Number(amount) = text::number_in(&line[22..29]) else {
+        return Fields::WrongShape;
+    };
+    let terms = Terms {
+        age,
+        years,
+        months,
+        option,
+        payer,
+        term,
+        amount,
+    };
+    Fields::Whole(Case { election, terms })
+}
+
+// The numbers of the digits, put into marks, and whether all are digits.
+fn read_marks(digits: &[u8], marks: &mut [u8]) -> bool
+    requires { ⌜ length (now digits) ≤ length (now marks) ⌝ }
+    ensures { λ r. ⌜ MarksTold (now (digits .entry)) (now (marks .exit)) r ⌝ }
+{
+    let mut i = 0;
+    while i < digits.len() {
+        let b = digits[i];
+        if b < b'0' {
+            return false;
+        }
+        if b'9' < b {
+            return false;
+        }
+        marks[i] = b - b'0';
+        i += 1;
+    }
+    true
+}
+
+fn figures_of(answer: Settlement) -> Figures
+    ensures { λ r. ⌜ figuresOf r ≡ numbersOf answer ⌝ }
+{
+    match answer {
+        Settlement::Refused { refusal, place } => Figures {
+            refusal: refusal as u64,
+            place: place as u64,
+            contribution: 0,
+            status: 0,
+            credit: 0,
+            refund: 0,
+        },
+        Settlement::Settled {
+            contribution,
+            status,
+            credit,
+            refund,
+        } => Figures {
+            refusal: 0,
+            place: 0,
+            contribution: contribution.0,
+            status: status as u64,
+            credit: credit.0,
+            refund: refund.0,
+        },
+    }
+}
+
+fn listed(election: u32, f: Figures) -> [u8; 46]
+    ensures { λ r. ⌜ r ≡ listedAs election (figuresOf f) ⌝ }
+{
+    let mut row = [b'\n'; 46];
+    text::put_number(&mut row, 0, 6, election as u64);
+    text::put_number(&mut row, 6, 3, f.refusal);
+    text::put_number(&mut row, 9, 4, f.place);
+    text::put_number(&mut row, 13, 2, f.status);
+    text::put_number(&mut row, 15, 10, f.contribution);
+    text::put_number(&mut row, 25, 10, f.credit);
+    text::put_number(&mut row, 35, 10, f.refund);
+    row[45] = b'\n';
+    row
+}
+
+fn wrong_shape() -> [u8; 46]
+    ensures { λ r. ⌜ r ≡ wrongShape ⌝ }
+{
+    listed(
+        0,
+        Figures {
+            refusal: 15,
+            place: 0,
+            contribution: 0,
+            status: 0,
+            credit: 0,
+            refund: 0,
+        },
+    )
+}
+
+// The listing's line for a line of the file, whatever its bytes are.
+pub fn settle_line(line: &[u8]) -> [u8; 46]
+    ensures { λ r. ⌜ r ≡ lineOf (now (line .entry)) ⌝ }
+{
+    if line.len() < FIELDS {
+        return wrong_shape();
+    }
+    if LONGEST < line.len() {
+        return wrong_shape();
+    }
+    let Fields::Whole(case) = read_fields(line) else {
+        return wrong_shape();
+    };
+    let mut marks = [0u8; 256];
+    let right = read_marks(&line[FIELDS..], &mut marks);
+    if right {
+        let count = line.len() - FIELDS;
+        let election = case.election;
+        let answer = settlement::settle(case.terms, &marks[..count]);
+        return listed(election, figures_of(answer));
+    }
+    wrong_shape()
+}

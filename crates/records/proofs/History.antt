@@ -1,0 +1,135 @@
+-- A posted history is a settled list: a fresh record holds the marks that are posted into it one after the other, none
+-- being refused. The record that a posting leaves is never bad. And every list that Settle accepts can be posted.
+-- Assumes nothing.
+use mathlib.Core.Bool.{Bool, true, false, _&&_}
+use mathlib.Core.List.{List, [], _∷_, _++_, append-nil}
+use mathlib.Core.Path.{_≡_, refl, sym, ap, subst, _∙_}
+use Prim.Native.Nat.{ℕ, zero, suc, _+_, _<_, _≤_}
+use native.Mathlib.Numerals.{add-one}
+use native.Mathlib.Omega.{arith}
+use lib.Dec.{T, eqb}
+use lib.ListN.{length, take, drop, set, replicate, length-set, length-append}
+use lib.Seq.{append-snoc, drop-set-lt, take-suc-set, take-append-seam}
+use Rattle.election.specs.declared.Terms.{Terms}
+use Rattle.marks.proofs.Term.{marks-counts, lawful-for-take}
+use Rattle.marks.specs.declared.Reading.{Reading}
+use Rattle.settlement.specs.Settle.{settleOf}
+use Rattle.settlement.proofs.Laws.{terms-pass, refused-by-marks, lawful, settle-refusal}
+use Rattle.records.specs.declared.Contract.{Contract}
+use Rattle.records.specs.Record.{usedMarks, settledRecord, allZero, badRecord}
+use Rattle.records.specs.Post.{postRefusal, postOf, written, postedRecord}
+use Rattle.records.specs.History.{freshRecord, postedAll, NoneRefused, Holds}
+use Rattle.records.proofs.Bad.{Good, good-record, not-bad}
+use Rattle.records.proofs.Posting.{Taken, taken, good-refused, used-length, success-record}
+
+zeros-further : (ms : List ℕ) (i : ℕ) → allZero (drop i ms) ≡ true → allZero (drop (suc i) ms) ≡ true
+unfolding allZero
+zeros-further [] i e = refl
+zeros-further (m ∷ ms) zero e = go (eqb m 0) e
+  where
+    go : (b : Bool) → (b && allZero ms) ≡ true → allZero ms ≡ true
+    go true e = e
+    go false e = absurd (subst T (sym e) tt)
+zeros-further (m ∷ ms) (suc i) e = zeros-further ms i e
+
+-- One posting that is not refused, into a record of 240 marks, as every record in memory is.
+module _ (c : Contract) (m : ℕ) (full : length (c .marks) ≡ 240) (z : postRefusal c m ≡ 0) where
+  next : Contract
+  next = written c (c .count) m (c .count + 1)
+
+  is-next : postedRecord c m ≡ next
+  unfolding next
+  is-next = sym (success-record c m z)
+
+  next-marks : usedMarks next ≡ usedMarks c ++ (m ∷ [])
+  unfolding next
+  next-marks = rw add-one (take-suc-set (c .marks) (c .count) m (omega (arith, taken c m full z .room)))
+
+  next-good : Good next
+  unfolding next
+  next-good =
+      let was = not-bad c (taken c m full z .good) in
+      record {
+        settled = rw next-marks (taken c m full z .accepted);
+        few = omega (arith, taken c m full z .room);
+        zeros = rw (add-one, drop-set-lt (suc (c .count)) (c .marks) (c .count) m (omega arith)) (zeros-further (c .marks) (c .count) (was .zeros));
+      }
+
+  -- the record that a posting leaves is not bad
+  pub posted-good : badRecord (postedRecord c m) ≡ false
+  posted-good = rw is-next (good-record next next-good)
+
+  pub posted-full : length (postedRecord c m .marks) ≡ 240
+  unfolding next
+  posted-full = rw (is-next, length-set) full
+
+  pub posted-marks : usedMarks (postedRecord c m) ≡ usedMarks c ++ (m ∷ [])
+  posted-marks = rw is-next next-marks
+
+  pub posted-terms : postedRecord c m .terms ≡ c .terms
+  unfolding next
+  posted-terms = rw is-next
+
+  pub posted-count : postedRecord c m .count ≡ suc (c .count)
+  unfolding next
+  posted-count = rw is-next (add-one (c .count))
+
+-- Several postings, none refused, into any record: the marks in use are followed by those that are posted.
+
+record Grown (c d : Contract) (ms : List ℕ) : Type 0 where
+  terms : d .terms ≡ c .terms
+  count : d .count ≡ c .count + length ms
+  marks : usedMarks d ≡ usedMarks c ++ ms
+
+grown : (c : Contract) (ms : List ℕ) → length (c .marks) ≡ 240 → NoneRefused c ms → Grown c (postedAll c ms) ms
+unfolding postedAll NoneRefused postOf
+grown c [] full none = record { terms = refl; count = omega arith; marks = sym (append-nil _) }
+grown c (m ∷ ms) full none =
+    let z = none .0 in
+    let rest = grown (postedRecord c m) ms (posted-full c m full z) (none .1) in
+    record {
+      terms = rest .terms ∙ posted-terms c m full z;
+      count = omega (arith, rest .count, posted-count c m full z);
+      marks = rest .marks ∙ rw (posted-marks c m full z) (append-snoc (usedMarks c) m ms);
+    }
+
+-- a fresh record holds the marks that are posted into it
+pub posted-history : (t : Terms) (ms : List ℕ) → NoneRefused (freshRecord t) ms → Holds (postedAll (freshRecord t) ms) t ms
+posted-history t ms none =
+    let g = grown (freshRecord t) ms refl none in
+    record {
+      terms = g .terms;
+      count = omega (arith, g .count);
+      marks = g .marks;
+      settled = rw (g .terms, g .marks);
+    }
+
+-- What Settle accepts can be posted.
+
+-- the first marks of a list that Settle accepts
+accepted-first : (t : Terms) (xs ys : List ℕ) → settleOf t (xs ++ ys) .refusal ≡ 0 → settleOf t xs .refusal ≡ 0
+accepted-first t xs ys e =
+    let z = sym (settle-refusal t (xs ++ ys)) ∙ e in
+    let part = rw (take-append-seam xs ys) at (lawful-for-take (t .term) (xs ++ ys) (length xs) (lawful t (xs ++ ys) z)) in
+    settle-refusal t xs
+    ∙ refused-by-marks t xs (terms-pass t (xs ++ ys) z)
+    ∙ ap (λ (r : Reading). r .refusal) (marks-counts (t .term) xs part)
+
+postable : (c : Contract) (ms : List ℕ) → length (c .marks) ≡ 240 → badRecord c ≡ false
+    → settleOf (c .terms) (usedMarks c ++ ms) .refusal ≡ 0 → NoneRefused c ms
+unfolding NoneRefused postOf
+postable c [] full good e = tt
+postable c (m ∷ ms) full good e =
+    let again = rw (← append-snoc) at e in
+    let z = good-refused c m good ∙ accepted-first (c .terms) (usedMarks c ++ (m ∷ [])) ms again in (
+      z,
+      postable (postedRecord c m) ms (posted-full c m full z) (posted-good c m full z)
+          (rw (posted-terms c m full z, posted-marks c m full z) again),
+    )
+
+pub accepted-posted : (t : Terms) (ms : List ℕ) → settleOf t ms .refusal ≡ 0 → NoneRefused (freshRecord t) ms
+unfolding allZero
+accepted-posted t ms e =
+    postable (freshRecord t) ms refl
+    (good-record (freshRecord t) (record { settled = accepted-first t [] ms e; few = omega arith; zeros = refl }))
+    e

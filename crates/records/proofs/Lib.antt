@@ -1,0 +1,8 @@
+pub mod Zeros
+pub mod Bad
+pub mod Cells
+pub mod Posting
+pub mod Element
+pub mod Adding
+pub mod History
+pub mod First

@@ -1,0 +1,4 @@
+pub mod Record
+pub mod Post
+pub mod Total
+pub mod History

@@ -1,0 +1,243 @@
+// The contract record: posting a month in its own memory, and a member's total over a list of records.
+ghost use mathlib.Core.Path.{_≡_};
+ghost use Prim.Native.Nat.{_≤_};
+ghost use lib.ListN.{length};
+ghost use mathlib.Core.Bool.{true};
+ghost use Prim.Native.Nat.{_*_};
+ghost use Rattle.money.specs.Money.{pension};
+ghost use Rattle.records.specs.Record.{allZero, checkOf};
+ghost use Rattle.records.specs.Post.{postRefusal, placeOf, postOf, postedRecord, Decided};
+ghost use Rattle.records.specs.Total.{refusedWith, openingOf, addOf, memberTotalOf};
+
+pub mod by_value;
+
+use election::Terms;
+use money::PensionPence;
+use settlement::Settlement;
+
+// The marks before the count are in use; the others are 0.
+pub struct Contract {
+    pub terms: Terms,
+    pub marks: [u8; 240],
+    pub count: usize,
+}
+
+// Whether a record is bad, and its credit where it is not.
+pub struct RecordCheck {
+    pub bad: bool,
+    pub credit: PensionPence,
+}
+
+// The refusal of a posting, 0 for success, and its place.
+pub struct Posted {
+    pub refusal: u32,
+    pub place: usize,
+}
+
+// What a posting comes to: its answer, the one mark that is written and the count.
+struct Entry {
+    at: usize,
+    mark: u8,
+    count: usize,
+    posted: Posted,
+}
+
+// The refusal of a total, 0 for success, the index of the first bad record, and the total.
+pub struct Total {
+    pub refusal: u32,
+    pub index: usize,
+    pub credit: PensionPence,
+}
+
+// A total so far, and the index at which the records to be added end; a refusal leaves none.
+struct Tally {
+    end: usize,
+    total: Total,
+}
+
+// The most records that a total is made of.
+pub const MOST_RECORDS: usize = 64;
+
+fn all_zero(marks: &[u8]) -> bool
+    ensures { λ r. ⌜ r ≡ allZero (now (marks .entry)) ⌝ }
+{
+    let mut i = 0;
+    while i < marks.len() {
+        if marks[i] != 0 {
+            return false;
+        }
+        i += 1;
+    }
+    true
+}
+
+fn bad_record() -> RecordCheck
+    ensures { λ r. ⌜ r ≡ record { bad = true; credit = pension 0 } ⌝ }
+{
+    RecordCheck {
+        bad: true,
+        credit: PensionPence::none(),
+    }
+}
+
+// The check of a record that posting and the total both make.
+pub fn check_record(c: Contract) -> RecordCheck
+    ensures { λ r. ⌜ r ≡ checkOf c ⌝ }
+{
+    let count = c.count;
+    let marks = c.marks;
+    if count > 240 {
+        return bad_record();
+    }
+    if !all_zero(&marks[count..]) {
+        return bad_record();
+    }
+    let terms = c.terms;
+    match settlement::settle(terms, &marks[..count]) {
+        Settlement::Refused { refusal, place: _ } => RecordCheck {
+            bad: refusal != 0,
+            credit: PensionPence::none(),
+        },
+        Settlement::Settled {
+            contribution: _,
+            status: _,
+            credit,
+            refund: _,
+        } => RecordCheck { bad: false, credit },
+    }
+}
+
+// 13 for a bad record; then 10, 11 or 12 as the marks with the new one are refused.
+fn refuse_post(c: Contract, mark: u8) -> u32
+    ensures { λ r. ⌜ r ≡ postRefusal c mark ⌝ }
+{
+    let check = check_record(c);
+    if check.bad {
+        return 13;
+    }
+    let terms = c.terms;
+    let term = terms.term;
+    let count = c.count;
+    let marks = c.marks;
+    if count >= 12 * (term as usize) {
+        return 10;
+    }
+    marks::step(marks::read_marks(&marks[..count], term), mark).refusal
+}
+
+// The place of a refusal: the count for 11 and 12.
+fn place(refusal: u32, count: usize) -> usize
+    ensures { λ r. ⌜ r ≡ placeOf refusal count ⌝ }
+{
+    if refusal == 11 {
+        return count;
+    }
+    if refusal == 12 {
+        return count;
+    }
+    0
+}
+
+// A refusal writes what stands there already, so that posting goes one way.
+fn decide(c: Contract, mark: u8) -> Entry
+    ensures { λ r. ⌜ Decided c mark r ⌝ }
+{
+    let refusal = refuse_post(c, mark);
+    let count = c.count;
+    let marks = c.marks;
+    if refusal == 0 {
+        return Entry {
+            at: count,
+            mark,
+            count: count + 1,
+            posted: Posted {
+                refusal: 0,
+                place: 0,
+            },
+        };
+    }
+    let place = place(refusal, count);
+    Entry {
+        at: 0,
+        mark: marks[0],
+        count,
+        posted: Posted { refusal, place },
+    }
+}
+
+// Adds one mark to the lent record. Nothing else of it is written than that mark and the count.
+pub fn post(c: &mut Contract, mark: u8) -> Posted
+    ensures { λ r. ⌜ (r ≡ postOf (now (c .entry)) mark) × (now (c .exit) ≡ postedRecord (now (c .entry)) mark) ⌝ }
+{
+    let held = *c;
+    let entry = decide(held, mark);
+    let at = entry.at;
+    c.marks[at] = entry.mark;
+    c.count = entry.count;
+    entry.posted
+}
+
+fn refused(refusal: u32, index: usize) -> Tally
+    ensures { λ r. ⌜ r ≡ refusedWith refusal index ⌝ }
+{
+    Tally {
+        end: 0,
+        total: Total {
+            refusal,
+            index,
+            credit: PensionPence::none(),
+        },
+    }
+}
+
+// The tally before any of n records.
+fn opening(n: usize) -> Tally
+    ensures { λ r. ⌜ r ≡ openingOf n ⌝ }
+{
+    if n > MOST_RECORDS {
+        return refused(14, 0);
+    }
+    Tally {
+        end: n,
+        total: Total {
+            refusal: 0,
+            index: 0,
+            credit: PensionPence::none(),
+        },
+    }
+}
+
+// The tally with the record at an index.
+fn add(t: Tally, c: Contract, index: usize) -> Tally
+    requires { ⌜ t .total .credit .0 ≤ 64 * 650000 ⌝ }
+    ensures { λ r. ⌜ r ≡ addOf t c index ⌝ }
+{
+    let check = check_record(c);
+    if check.bad {
+        return refused(13, index);
+    }
+    let sum = t.total.credit;
+    let credit = sum.plus(check.credit);
+    Tally {
+        end: t.end,
+        total: Total {
+            refusal: 0,
+            index: 0,
+            credit,
+        },
+    }
+}
+
+// Adds the credits of the lent records in list order.
+pub fn member_total(records: &[Contract]) -> Total
+    ensures { λ r. ⌜ r ≡ memberTotalOf (now (records .entry)) ⌝ }
+{
+    let mut t = opening(records.len());
+    let mut i = 0;
+    while i < t.end {
+        let c = records[i];
+        t = add(t, c, i);
+        i += 1;
+    }
+    t.total
+}

@@ -1,0 +1,25 @@
+-- A number written in a column, right-justified.
+-- Assumes nothing.
+use mathlib.Core.List.{List, [], _∷_, _++_}
+use Prim.Native.Nat.{ℕ, zero, suc, _+_, _/_, _%_}
+use lib.Dec.{leb, eqb}
+use lib.ListN.{length, take, drop}
+use Rattle.common.specs.Choice.{pick}
+
+-- one column: the last digit of v, and a space where v has none left
+unfoldable pub glyphOf : ℕ → ℕ
+glyphOf v = pick (eqb v 0) 32 (48 + v % 10)
+
+-- the columns before the last digit
+unfoldable pub frontOf : ℕ → ℕ → List ℕ
+frontOf zero v = []
+frontOf (suc w) v = frontOf w (v / 10) ++ (glyphOf v ∷ [])
+
+-- v in w columns: spaces in front, no leading zeros, zero itself one digit 0
+unfoldable pub columnOf : ℕ → ℕ → List ℕ
+columnOf zero v = []
+columnOf (suc w) v = frontOf w (v / 10) ++ ((48 + v % 10) ∷ [])
+
+-- the bytes put into a list at an index; as it was where it has no room for them
+unfoldable pub putAt : List ℕ → ℕ → List ℕ → List ℕ
+putAt l at bytes = pick (leb (at + length bytes) (length l)) (take at l ++ bytes ++ drop (at + length bytes) l) l
