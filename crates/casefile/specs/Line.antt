@@ -12,7 +12,7 @@ use Rattle.casefile.specs.declared.line.Fields.{Fields}
 use Rattle.casefile.specs.declared.line.Fields.the-variants.{Whole, WrongShape}
 use Rattle.casefile.specs.Shape.{fieldsOf, allDigits, marksIn}
 
--- election 1–6, refusal 7–9, place 10–13, status 14–15, contribution 16–25, credit 26–35, refund 36–45, byte 10
+-- the seven columns of a line of the listing, 45 bytes, and its line end
 unfoldable pub listedAs : ℕ → SettleNumbers → List ℕ
 listedAs election n =
     columnOf 6 election
@@ -24,7 +24,7 @@ listedAs election n =
     ++ columnOf 10 (n .refund)
     ++ (10 ∷ [])
 
--- 15: election 0 and zeros in all fields but the refusal
+-- the line for a wrong shape: the refusal 15 and nothing else
 unfoldable pub wrongShape : List ℕ
 wrongShape = listedAs 0 (record { refusal = 15; place = 0; contribution = 0; status = 0; credit = 0; refund = 0 })
 

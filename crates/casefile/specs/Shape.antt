@@ -22,7 +22,7 @@ abbrev pub onNumber : Field → (ℕ → Fields) → Fields
 onNumber (Number n) next = next n
 onNumber NoNumber next = WrongShape
 
--- election 1–6, age 7–9, PNPA years 10–12, months 13–15, option 16–17, payer 18–19, term 20–22, amount 23–29
+-- the eight fields in their columns; years and months are those of the pension age
 unfoldable pub fieldsOf : List ℕ → Fields
 fieldsOf line =
     onNumber (fieldOf (columns 1 6 line)) (λ election.

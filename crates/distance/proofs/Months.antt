@@ -17,7 +17,7 @@ module _ (round : ℕ → ℕ → ℕ) (p : Purchase) (short : p .term ≤ 20) w
   on-line i = rw (row-year round p short (i / 12), row-year round p short (suc (i / 12)))
 
 module _ (round : ℕ → ℕ → ℕ) (half : WithinHalf round) (p : Purchase) (short : p .term ≤ 20) where
-  -- with j = 0 it is year n
+  -- the value at the end of a whole year
   pub month-year : (n : ℕ) → monthValue round (yearCredits round p) (12 * n) ≡ yearCredit round p n
   month-year n =
       let q : 12 * n / 12 ≡ n = omega arith in

@@ -1,4 +1,4 @@
--- Document 01: a fraction is a whole numerator over a whole denominator. Nothing is cancelled and nothing is rounded.
+-- Document 01, the exact credit: fractions as pairs of whole numbers, never reduced and never rounded.
 -- Assumes nothing.
 use Prim.Native.Nat.{ℕ, _+_, _*_, _-_}
 

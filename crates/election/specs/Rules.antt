@@ -7,35 +7,35 @@ use Rattle.common.specs.Choice.{pick}
 use Rattle.election.specs.declared.Terms.{Terms}
 use Rattle.election.specs.Rate.{tableRate}
 
--- 1: option not 1 or 2
+-- 1: no such option
 unfoldable pub wrongOption : Terms → Bool
 wrongOption t = not (eqb (t .option) 1 || eqb (t .option) 2)
 
--- 2: pension age not from 65 years 0 months to 68 years 0 months, or its months not 0 to 11
+-- 2: months that are no months of a year, or a pension age below 65 or above 68 years
 unfoldable pub wrongPensionAge : Terms → Bool
 wrongPensionAge t = ltb 11 (t .months) || (ltb (t .years) 65 || ltb (68 * 12) (t .years * 12 + t .months))
 
--- 3: term above 20
+-- 3: more than twenty years
 unfoldable pub wrongTerm : Terms → Bool
 wrongTerm t = ltb 20 (t .term)
 
--- 4: payer not 1 or 2, or an employer with a term above 0
+-- 4: no such payer, or an employer who would pay by the month
 unfoldable pub wrongPayer : Terms → Bool
 wrongPayer t = not (eqb (t .payer) 1 || eqb (t .payer) 2) || (eqb (t .payer) 2 && ltb 0 (t .term))
 
--- 5: no entry at that age in Table S, or in the only or lower monthly table
+-- 5: nothing printed for that age and term in the only or lower table; Table S is the table of a lump sum
 unfoldable pub noLowerRate : Terms → Bool
 noLowerRate t = eqb (tableRate t (t .years)) 0
 
--- 6: with odd months, no entry in the upper table
+-- 6: odd months need the upper table, and nothing is printed there
 unfoldable pub noUpperRate : Terms → Bool
 noUpperRate t = not (eqb (t .months) 0) && eqb (tableRate t (t .years + 1)) 0
 
--- 7: amount not a multiple of £250 of at least £250
+-- 7: less than £250, or not in steps of £250
 unfoldable pub wrongAmount : Terms → Bool
 wrongAmount t = ltb (t .amount) 250 || not (eqb (t .amount % 250) 0)
 
--- 8: existing pension and the new amount together above the cap of £6,500, in pence
+-- 8: with the existing pension more than £6,500 a year, in pence
 unfoldable pub aboveCap : Terms → ℕ → Bool
 aboveCap t existing = ltb 650000 (existing + t .amount * 100)
 

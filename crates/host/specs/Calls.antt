@@ -34,7 +34,7 @@ answerIn size refusal result buffer =
     pick (ltb (length buffer) size) (record { value = 14; buffer = buffer })
     (record { value = refusal; buffer = result ++ drop size buffer })
 
--- Quote for a host: 24 bytes; the host keeps the register
+-- Quote for a host, whose register is its own: 24 bytes
 unfoldable pub hostQuoteOf : Terms → (existing last : ℕ) → List ℕ → HostAnswer
 hostQuoteOf t existing last buffer =
     answerIn 24 (quoteOf t existing last .refusal) (quoteBytes (quoteOf t existing last)) buffer

@@ -13,7 +13,7 @@ pub struct Reading {
     pub count: usize,
     // paid months
     pub paid: usize,
-    // months up to and including the last paid one
+    // months as far as the last paid one
     pub through: usize,
     // missed months at the end
     pub gap: usize,

@@ -59,7 +59,7 @@ pub fn quote(t: Terms, existing: PensionPence, register: Register) -> Quoted
     }
 }
 
-// The greatest multiple of £250, in pounds, that with the existing pension is at most the cap; 0 if none.
+// How many pounds may still be bought, in steps of £250.
 pub fn cap_decision(existing: PensionPence) -> u32
     ensures is { λ r. ⌜ r ≡ capDecisionOf (existing .0) ⌝ }
     ensures greatest { λ r. ⌜ GreatestUnderCap (existing .0) r ⌝ }

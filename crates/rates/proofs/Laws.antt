@@ -41,7 +41,7 @@ rate-most o p age term = by-positive (λ x. x ≤ 38160) _ zero-le (λ h. rate-r
 pub rate-tens : (o p age term : ℕ) → rateOf o p age term % 10 ≡ 0
 rate-tens o p age term = by-positive (λ x. x % 10 ≡ 0) _ refl (λ h. rate-rules o p age term h .tens)
 
--- along a row the rate never rises with the term
+-- a longer term never has a higher rate
 pub rate-falls : (o p age n t : ℕ) → 0 < n → n ≤ t → rateOf o p age t ≤ rateOf o p age n
 rate-falls o p age n t low =
     le-ind (λ (m : ℕ). rateOf o p age m ≤ rateOf o p age n) (le-refl _) (λ m h below. le-trans (step m (omega arith)) below) t

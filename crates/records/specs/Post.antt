@@ -13,15 +13,15 @@ use Rattle.records.specs.declared.Posted.{Posted}
 use Rattle.records.specs.declared.Entry.{Entry}
 use Rattle.records.specs.Record.{usedMarks, badRecord}
 
--- 13 for a bad record; then 10, 11, 12 for the new mark, as Settle refuses the marks with it at their end
+-- a bad record comes first; then what Settle says of the marks with the new one at their end
 unfoldable pub postRefusal : Contract → ℕ → ℕ
 postRefusal c m = pick (badRecord c) 13 (settleOf (c .terms) (usedMarks c ++ (m ∷ [])) .refusal)
 
--- the place of a refusal: the record's count for 11 and 12, else 0
+-- where the new mark was to stand, if it is the mark that is refused
 unfoldable pub placeOf : ℕ → ℕ → ℕ
 placeOf refusal count = pick (eqb refusal 11 || eqb refusal 12) count 0
 
--- the result: the refusal number, 0 for success, and its place
+-- what posting answers
 unfoldable pub postOf : Contract → ℕ → Posted
 postOf c m = record { refusal = postRefusal c m; place = placeOf (postRefusal c m) (c .count) }
 

@@ -28,7 +28,7 @@ unfoldable pub allZero : List ℕ → Bool
 allZero [] = true
 allZero (m ∷ ms) = eqb m 0 && allZero ms
 
--- Post a month: Settle refuses the record as it is, its count is above 240, or an unused mark is not 0
+-- Post a month: what makes a record bad. Its marks in use have to settle, its count has to fit, and the other marks are 0.
 unfoldable pub badRecord : Contract → Bool
 badRecord c =
     not (eqb (settledRecord c .refusal) 0) || (ltb 240 (c .count) || not (allZero (unusedMarks c)))

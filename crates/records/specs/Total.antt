@@ -22,7 +22,7 @@ unfoldable pub anyBad : List Contract → Bool
 anyBad [] = false
 anyBad (c ∷ cs) = badRecord c || anyBad cs
 
--- the index of the first bad record: how many stand before it
+-- how many records stand before the first bad one
 unfoldable pub firstBadRecord : List Contract → ℕ
 firstBadRecord [] = 0
 firstBadRecord (c ∷ cs) = pick (badRecord c) 0 (suc (firstBadRecord cs))
@@ -35,7 +35,7 @@ refusedTotal n i = record { refusal = n; index = i; credit = pension 0 }
 abbrev pub totalling : ℕ → Total
 totalling sum = record { refusal = 0; index = 0; credit = pension sum }
 
--- 14 for more than 64 records; then 13 with the index of the first bad one; else the credits added up
+-- a list of more than 64 records is refused unseen; then the first bad record is named; else the credits are added up
 unfoldable pub memberTotalOf : List Contract → Total
 memberTotalOf cs =
     pick (ltb 64 (length cs)) (refusedTotal 14 0)

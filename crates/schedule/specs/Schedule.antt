@@ -10,7 +10,7 @@ use Rattle.election.specs.declared.Terms.{Terms}
 use Rattle.settlement.specs.Settle.{settleRefusal, settlePlace, settleOf}
 use Rattle.schedule.specs.declared.Scheduled.{Scheduled}
 
--- entry i: the credit that Settle gives for the first i + 1 marks
+-- an entry is Settle's credit for the marks up to and with its own
 unfoldable pub entryOf : Terms → List ℕ → ℕ → ℕ
 entryOf t marks i = settleOf t (take (suc i) marks) .credit
 

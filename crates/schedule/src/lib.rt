@@ -11,7 +11,7 @@ use election::Terms;
 use marks::Reading;
 use money::PensionPence;
 
-// The refusal, 0 for success, and Settle's place.
+// The answer: a refusal or 0, and where a bad mark stands.
 pub struct Scheduled {
     pub refusal: u32,
     pub place: usize,

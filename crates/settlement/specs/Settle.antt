@@ -23,7 +23,7 @@ pub record SettleNumbers : Type 0 where
   pub credit : ℕ
   pub refund : ℕ
 
--- 1 to 8 as a quote with nothing existing; then 10, 11 or 12 of the marks
+-- the refusal of the terms, with no pension held yet; where they pass, that of the marks
 unfoldable pub settleRefusal : Terms → List ℕ → ℕ
 settleRefusal t marks = pick (eqb (refusalOf t 0) 0) (marksOf (t .term) marks .refusal) (refusalOf t 0)
 
@@ -64,5 +64,5 @@ settleOf t marks =
 -- document 01's numbers for each case of an answer
 abbrev pub numbersOf : Settlement → SettleNumbers
 numbersOf (Refused n i) = refusedNumbers n i
-numbersOf (Settled c s k f) =
-    record { refusal = 0; place = 0; contribution = c .0; status = s; credit = k .0; refund = f .0 }
+numbersOf (Settled own s held back) =
+    record { refusal = 0; place = 0; contribution = own .0; status = s; credit = held .0; refund = back .0 }

@@ -15,7 +15,7 @@ unfoldable pub frontOf : ℕ → ℕ → List ℕ
 frontOf zero v = []
 frontOf (suc w) v = frontOf w (v / 10) ++ (glyphOf v ∷ [])
 
--- v in w columns: spaces in front, no leading zeros, zero itself one digit 0
+-- v in w columns, filled with spaces on the left; the last column always has a digit
 unfoldable pub columnOf : ℕ → ℕ → List ℕ
 columnOf zero v = []
 columnOf (suc w) v = frontOf w (v / 10) ++ ((48 + v % 10) ∷ [])

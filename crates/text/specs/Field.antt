@@ -1,5 +1,4 @@
--- Document 01, "The case file": the number that a column says. It is right-justified with spaces in front and has no
--- leading zeros, zero itself being one digit 0.
+-- Document 01, "The case file": the number that a column says. Spaces fill it on the left, and a number has one spelling only.
 -- Assumes nothing.
 use mathlib.Core.List.{List, [], _∷_}
 use Prim.Native.Nat.{ℕ, _+_, _*_, _-_}

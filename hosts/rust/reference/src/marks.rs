@@ -27,7 +27,7 @@ pub fn first_bad(marks: &[u8]) -> Option<(u32, u32)> {
     None
 }
 
-/// The number of months up to and including the last paid one, 0 if none is paid.
+/// How many months there are as far as the last paid one.
 pub fn paid_through(marks: &[u8]) -> usize {
     marks.iter().rposition(|&mark| mark == PAID).map_or(0, |last| last + 1)
 }
