@@ -7,17 +7,17 @@ use libc::STDERR_FILENO;
 use libc::STDIN_FILENO;
 use libc::STDOUT_FILENO;
 
-// After a read and what was settled of it: the line that is open, and whether to read on.
-pub enum Next {
+enum Next {
     ReadOn,
     AtEnd,
     ReadFailed,
     WriteFailed,
 }
 
-pub struct Turn {
-    pub after: OpenLine,
-    pub next: Next,
+// After a read and what was settled of it: the line that is open, and whether to read on.
+struct Turn {
+    after: OpenLine,
+    next: Next,
 }
 
 // Settles what was read and prints it, as often as the buffer fills.
