@@ -57,7 +57,7 @@ quote-reads t existing last buffer h =
     subst (λ (l : List ℕ). QuoteRead l (quoteOf t existing last)) (quote-enough t existing last buffer h refl (refl, refl) .1)
     (quote-back (quoteOf t existing last) (drop 24 buffer) (quote-bounds t existing last))
 
--- or of Settle
+-- and of Settle, likewise
 pub settle-reads : (t : Terms) (marks buffer : List ℕ) → 48 ≤ length buffer
     → SettleRead (hostSettleOf t marks buffer .buffer) (settleOf t marks)
 settle-reads t marks buffer h =
