@@ -26,7 +26,7 @@ open-append p [] b = refl
 open-append p (x ∷ a) b =
     by-test (eqb x 10)
     (λ (t : Bool). pick t (openAfter [] (a ++ b)) (openAfter (p ++ (x ∷ [])) (a ++ b))
-        ≡ openAfter (pick t (openAfter [] a) (openAfter (p ++ (x ∷ [])) a)) b)
+    ≡ openAfter (pick t (openAfter [] a) (openAfter (p ++ (x ∷ [])) a)) b)
     (open-append [] a b)
     (open-append (p ++ (x ∷ [])) a b)
 
@@ -36,8 +36,8 @@ written-append p [] b = refl
 written-append p (x ∷ a) b =
     by-test (eqb x 10)
     (λ (t : Bool). pick t (lineOf p ++ writtenBy [] (a ++ b)) (writtenBy (p ++ (x ∷ [])) (a ++ b))
-        ≡ pick t (lineOf p ++ writtenBy [] a) (writtenBy (p ++ (x ∷ [])) a)
-        ++ writtenBy (pick t (openAfter [] a) (openAfter (p ++ (x ∷ [])) a)) b)
+    ≡ pick t (lineOf p ++ writtenBy [] a) (writtenBy (p ++ (x ∷ [])) a)
+    ++ writtenBy (pick t (openAfter [] a) (openAfter (p ++ (x ∷ [])) a)) b)
     (ap (λ (r : List ℕ). lineOf p ++ r) (written-append [] a b)
     ∙ sym (append-assoc (lineOf p) (writtenBy [] a) (writtenBy (openAfter [] a) b)))
     (written-append (p ++ (x ∷ [])) a b)
@@ -49,8 +49,8 @@ listing-from p [] = refl
 listing-from p (b ∷ bs) =
     by-test (eqb b 10)
     (λ (t : Bool). listLines (pick t (p ∷ linesAfter [] bs) (linesAfter (p ++ (b ∷ [])) bs))
-        ≡ pick t (lineOf p ++ writtenBy [] bs) (writtenBy (p ++ (b ∷ [])) bs)
-        ++ writtenAtEnd (pick t (openAfter [] bs) (openAfter (p ++ (b ∷ [])) bs)))
+    ≡ pick t (lineOf p ++ writtenBy [] bs) (writtenBy (p ++ (b ∷ [])) bs)
+    ++ writtenAtEnd (pick t (openAfter [] bs) (openAfter (p ++ (b ∷ [])) bs)))
     (ap (λ (r : List ℕ). lineOf p ++ r) (listing-from [] bs)
     ∙ sym (append-assoc (lineOf p) (writtenBy [] bs) (writtenAtEnd (openAfter [] bs))))
     (listing-from (p ++ (b ∷ [])) bs)
@@ -89,7 +89,7 @@ same-written [] p q e = refl
 same-written (b ∷ bs) p q e =
     by-test (eqb b 10)
     (λ (t : Bool). pick t (lineOf p ++ writtenBy [] bs) (writtenBy (p ++ (b ∷ [])) bs)
-        ≡ pick t (lineOf q ++ writtenBy [] bs) (writtenBy (q ++ (b ∷ [])) bs))
+    ≡ pick t (lineOf q ++ writtenBy [] bs) (writtenBy (q ++ (b ∷ [])) bs))
     (ap (λ (r : List ℕ). r ++ writtenBy [] bs) (same-line p q e))
     (same-written bs (p ++ (b ∷ [])) (q ++ (b ∷ [])) (same-more p q (b ∷ []) e))
 

@@ -54,7 +54,7 @@ calls-write {o} (on-chunk {chunk = chunk} {out = out} {out′ = out′} {rest = 
     let part = take (r .taken) chunk in
     let q = openAfter p part in
     let later : written ≡ writtenBy q rest ++ writtenAtEnd (openAfter q rest) =
-        calls-write calls ∙ rw (told .after, written-kept q rest, end-kept q rest) in
+    calls-write calls ∙ rw (told .after, written-kept q rest, end-kept q rest) in
     rw (written-is told, later)
     (sym (append-assoc (writtenBy p part) (writtenBy q rest) (writtenAtEnd (openAfter q rest)))
     ∙ sym (rw (written-append p part rest, open-append p part rest)))

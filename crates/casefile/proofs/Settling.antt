@@ -83,7 +83,7 @@ row-more : (w old out row : List ℕ) (wrote : ℕ) → wrote ≡ length w → o
 row-more w old out row wrote n e long =
     let there : take wrote out ≡ w = ap (take wrote) e ∙ take-at w (drop wrote old) wrote (sym n) in
     let behind : drop (wrote + 46) out ≡ drop (wrote + 46) old =
-        ap (drop (wrote + 46)) e ∙ ap (λ (k : ℕ). drop (k + 46) (w ++ drop wrote old)) n ∙ drop-append-add w (drop wrote old) 46 ∙ drop-drop 46 wrote old in
+    ap (drop (wrote + 46)) e ∙ ap (λ (k : ℕ). drop (k + 46) (w ++ drop wrote old)) n ∙ drop-append-add w (drop wrote old) 46 ∙ drop-drop 46 wrote old in
     rw (there, behind, take-all 46 row (omega arith))
 
 -- the n-th line end is that much nearer
@@ -104,15 +104,15 @@ module _ {p chunk old bytes out : List ℕ} {len taken wrote : ℕ} (s : Settlin
       let row-is : row ≡ lineOf (q ++ part) = is ∙ ap (λ (r : List ℕ). lineOf (r ++ part)) (s .kept) ∙ kept-line q part in
       let row-long : length row ≡ 46 = ap length row-is ∙ length-line (q ++ part) in
       let opened : openAfter p (take (end + 1) chunk) ≡ [] =
-          ap (openAfter p) (passed-end chunk taken end f h) ∙ open-append p (take taken chunk) (part ++ (10 ∷ [])) ∙ end-open q part (f .before) in
+      ap (openAfter p) (passed-end chunk taken end f h) ∙ open-append p (take taken chunk) (part ++ (10 ∷ [])) ∙ end-open q part (f .before) in
       let listed : writtenBy p (take (end + 1) chunk) ≡ w ++ row =
-          ap (writtenBy p) (passed-end chunk taken end f h) ∙ written-append p (take taken chunk) (part ++ (10 ∷ []))
-          ∙ ap (λ (r : List ℕ). w ++ r) (end-written q part (f .before) ∙ sym row-is) in
+      ap (writtenBy p) (passed-end chunk taken end f h) ∙ written-append p (take taken chunk) (part ++ (10 ∷ []))
+      ∙ ap (λ (r : List ℕ). w ++ r) (end-written q part (f .before) ∙ sym row-is) in
       let n = (length old - (wrote + 46)) / 46 in
       let lines : (length old - wrote) / 46 ≡ suc ((length old - (wrote + 46)) / 46) = omega (arith, s .out-long) in
       let more : takenWith ((length old - wrote) / 46) (drop taken chunk) ≡ (end - taken) + suc (takenWith ((length old - (wrote + 46)) / 46) (drop (end + 1) chunk)) =
-          ap (λ (k : ℕ). takenWith k (drop taken chunk)) lines ∙ ap (takenWith (suc n)) (ahead-end chunk taken end f h)
-          ∙ taken-more n part (drop (end + 1) chunk) (f .before) ∙ ap (λ (k : ℕ). k + suc (takenWith n (drop (end + 1) chunk))) (length-part chunk taken end f) in
+      ap (λ (k : ℕ). takenWith k (drop taken chunk)) lines ∙ ap (takenWith (suc n)) (ahead-end chunk taken end f h)
+      ∙ taken-more n part (drop (end + 1) chunk) (f .before) ∙ ap (λ (k : ℕ). k + suc (takenWith n (drop (end + 1) chunk))) (length-part chunk taken end f) in
       record {
         within = omega arith;
         small = omega arith;
@@ -133,17 +133,17 @@ module _ {p chunk old bytes out : List ℕ} {len taken wrote : ℕ} (s : Settlin
       let q = openAfter p (take taken chunk) in
       let w = writtenBy p (take taken chunk) in
       let opened : openAfter p (take end chunk) ≡ q ++ part =
-          ap (openAfter p) (passed chunk taken end f) ∙ open-append p (take taken chunk) part ∙ no-end-open q part (f .before) in
+      ap (openAfter p) (passed chunk taken end f) ∙ open-append p (take taken chunk) part ∙ no-end-open q part (f .before) in
       let listed : writtenBy p (take end chunk) ≡ w =
-          ap (writtenBy p) (passed chunk taken end f) ∙ written-append p (take taken chunk) part
-          ∙ ap (λ (x : List ℕ). w ++ x) (no-end-written q part (f .before)) ∙ append-nil w in
+      ap (writtenBy p) (passed chunk taken end f) ∙ written-append p (take taken chunk) part
+      ∙ ap (λ (x : List ℕ). w ++ x) (no-end-written q part (f .before)) ∙ append-nil w in
       let n = (length old - (wrote + 46)) / 46 in
       let lines : (length old - wrote) / 46 ≡ suc ((length old - (wrote + 46)) / 46) = omega (arith, s .out-long) in
       let more : takenWith ((length old - wrote) / 46) (drop taken chunk) ≡ (end - taken) + takenWith ((length old - wrote) / 46) (drop end chunk) =
-          ap (takenWith ((length old - wrote) / 46)) (ahead-of chunk taken end f) ∙ ap (λ (k : ℕ). takenWith k (part ++ drop end chunk)) lines
-          ∙ no-end-taken n part (drop end chunk) (f .before)
-          ∙ ap (λ (k : ℕ). k + takenWith (suc n) (drop end chunk)) (length-part chunk taken end f)
-          ∙ ap (λ (k : ℕ). (end - taken) + takenWith k (drop end chunk)) (sym lines) in
+      ap (takenWith ((length old - wrote) / 46)) (ahead-of chunk taken end f) ∙ ap (λ (k : ℕ). takenWith k (part ++ drop end chunk)) lines
+      ∙ no-end-taken n part (drop end chunk) (f .before)
+      ∙ ap (λ (k : ℕ). k + takenWith (suc n) (drop end chunk)) (length-part chunk taken end f)
+      ∙ ap (λ (k : ℕ). (end - taken) + takenWith k (drop end chunk)) (sym lines) in
       record {
         within = f .within;
         small = k .small;

@@ -33,6 +33,7 @@ pub struct Figures {
 
 // Bytes before the marks, and the most that a line has.
 const FIELDS: usize = 29;
+
 const LONGEST: usize = 285;
 
 fn read_fields(line: &[u8]) -> Fields

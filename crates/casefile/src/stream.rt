@@ -30,6 +30,7 @@ pub struct EndSettled {
 
 // The bytes of an open line that are kept, and those of a line of the listing.
 const KEPT: usize = 286;
+
 const LISTED: usize = 46;
 
 fn least(a: usize, b: usize) -> usize

@@ -52,7 +52,7 @@ column-more old l at j left g rest h room e s =
     let k : at + j ≡ suc (at + (j - 1)) = omega arith in
     let m : suc (j - 1) ≡ j = omega arith in
     let one = one-column old l (at + (j - 1)) (j - 1) left rest (omega arith) (rw k at (s .front))
-        (ap (λ (x : ℕ). frontOf x left ++ drop (suc (at + (j - 1))) l) m ∙ ap (λ (x : ℕ). frontOf j left ++ drop x l) (sym k) ∙ s .back) in
+    (ap (λ (x : ℕ). frontOf x left ++ drop (suc (at + (j - 1))) l) m ∙ ap (λ (x : ℕ). frontOf j left ++ drop x l) (sym k) ∙ s .back) in
     rw e (record { long = length-set l _ _ ∙ s .long; front = one .0; back = one .1 })
 
 -- all columns: the last digit was put first

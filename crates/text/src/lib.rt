@@ -14,7 +14,9 @@ pub enum Field {
 }
 
 const SPACE: u8 = b' ';
+
 const ZERO: u8 = b'0';
+
 const NINE: u8 = b'9';
 
 fn spaces_in_front(part: &[u8]) -> usize

@@ -59,7 +59,7 @@ slice-reshare-prefix-write-all : tie.Need-slice-reshare-prefix-write-all Inv-loo
 slice-reshare-prefix-write-all c = counts (c .before .before .before .before) .wrote
 
 slice-aggregate-write-all : tie.Need-slice-aggregate-write-all Inv-loop μ-loop
-slice-aggregate-write-all c = sym (length-take-le _ _ (counts (c .before  .before .before .before .before) .wrote))
+slice-aggregate-write-all c = sym (length-take-le _ _ (counts (c .before .before .before .before .before) .wrote))
 
 write-all-requires : tie.Need-write-all-requires Inv-loop μ-loop
 write-all-requires c κs = search needs
