@@ -7,3 +7,4 @@ pub mod Keeping
 pub mod Settling
 pub mod Last
 pub mod Laws
+pub mod Wide

@@ -31,9 +31,10 @@ pub struct Figures {
     pub refund: u64,
 }
 
-// Bytes before the marks, and the most that a line has.
+// The bytes before the marks.
 const FIELDS: usize = 29;
 
+// The most bytes that a line has.
 const LONGEST: usize = 285;
 
 fn read_fields(line: &[u8]) -> Fields

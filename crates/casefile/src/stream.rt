@@ -28,9 +28,10 @@ pub struct EndSettled {
     pub wrote: usize,
 }
 
-// The bytes of an open line that are kept, and those of a line of the listing.
+// The most bytes of an open line that are kept.
 const KEPT: usize = 286;
 
+// The bytes of a line of the listing, its end included.
 const LISTED: usize = 46;
 
 fn least(a: usize, b: usize) -> usize
