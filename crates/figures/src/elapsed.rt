@@ -6,10 +6,26 @@ pub struct Elapsed {
     pub count: usize,
 }
 
+pub fn none() -> Elapsed {
+    Elapsed {
+        marks: [0u8; 256],
+        count: 0,
+    }
+}
+
+// The mark itself; 255 for a greater one.
+fn mark_of(n: u64) -> u8 {
+    if n > 255 {
+        return 255;
+    }
+    n as u8
+}
+
 // One run more, as far as there is room.
-fn run(before: [u8; 256], from: usize, mark: u8, months: usize) -> Elapsed {
-    let mut marks = before;
-    let mut count = from;
+pub fn then(before: Elapsed, n: u64, months: u64) -> Elapsed {
+    let mark = mark_of(n);
+    let mut marks = before.marks;
+    let mut count = before.count;
     let mut left = months;
     while left > 0 {
         left -= 1;
@@ -28,23 +44,4 @@ pub fn first(marks: &[u8; 256], count: usize) -> &[u8] {
         return all;
     }
     &all[..count]
-}
-
-pub fn none() -> Elapsed {
-    Elapsed {
-        marks: [0u8; 256],
-        count: 0,
-    }
-}
-
-pub fn paid(months: usize) -> Elapsed {
-    run([0u8; 256], 0, 1, months)
-}
-
-impl Elapsed {
-    // So many months of a mark after these.
-    pub fn then(self, mark: u8, months: usize) -> Elapsed {
-        let marks = self.marks;
-        run(marks, self.count, mark, months)
-    }
 }

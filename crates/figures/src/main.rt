@@ -1,35 +1,33 @@
-// The documents' figures and every operation at its edges, one to a line: a label, then named numbers, money in pence.
+// The documents' figures and every operation at its edges, one to a line: what is asked, then what the part gives, money in pence.
 // The figures that are marked as proved are rows of specs/Rows.antt; the file stdout holds what the others must be.
-mod contract;
-mod document_000;
-mod document_001;
-mod document_01;
+mod cases;
 mod elapsed;
 mod line;
-mod quoting;
-mod scheduling;
-mod settling;
+mod operations;
+mod working;
+
+use operations::Operation;
+use operations::print_table;
 
 fn main() {
-    document_000::examples();
-    document_000::credits();
-    document_000::gap();
-    document_001::working();
-    document_001::contract();
-    document_01::rates();
-    document_01::edges();
-    quoting::made();
-    quoting::terms_refused();
-    quoting::rates_refused();
-    quoting::amounts_refused();
-    quoting::numbers();
-    quoting::cap_decisions();
-    settling::terms_refused();
-    settling::amounts_refused();
-    settling::marks_refused();
-    settling::open();
-    settling::over();
-    settling::stopped();
-    scheduling::written();
-    scheduling::refused();
+    print_table(Operation::Quote, b"000 examples 1 to 4", &cases::EXAMPLES);
+    print_table(Operation::CapDecision, b"000 example 5", &cases::HEADROOM);
+    print_table(Operation::Settle, b"000 examples A1 to A3", &cases::STOPS);
+    print_table(Operation::Settle, b"000 example A4", &cases::GAP);
+    working::contributions();
+    working::credits();
+    print_table(
+        Operation::Settle,
+        b"001 at the rates of 000",
+        &cases::ODD_MONTHS,
+    );
+    print_table(Operation::Rate, b"01 rate", &cases::RATES);
+    print_table(Operation::Quote, b"quote", &cases::QUOTES);
+    print_table(
+        Operation::CapDecision,
+        b"cap decision",
+        &cases::CAP_DECISIONS,
+    );
+    print_table(Operation::Settle, b"settle", &cases::SETTLEMENTS);
+    print_table(Operation::Schedule, b"schedule", &cases::SCHEDULES);
 }

@@ -1,15 +1,18 @@
--- `elapsed::run` is safe and ends: the measure is the months that are left.
+-- `elapsed::then` is safe and ends: the measure is the months that are left.
 -- Assumes nothing.
 use Prim.Native.Nat.{_≤_}
 use borrow.Author.Needs.{needs}
-use Rattle.figures.proofs.elapsed.run.Statement.{statement}
-use Rattle.figures.proofs.elapsed.run.Tie as tie
+use Rattle.figures.proofs.elapsed.then.Statement.{statement}
+use Rattle.figures.proofs.elapsed.then.Tie as tie
 
 abbrev Inv-loop : tie.InvT-loop
-Inv-loop from mark months marks₀ count₀ left₀ marks count left = left ≤ months
+Inv-loop n months mark marks₀ count₀ left₀ marks count left = left ≤ months
 
 abbrev μ-loop : tie.MeasureT-loop
-μ-loop from mark months marks₀ count₀ left₀ marks count left = left
+μ-loop n months mark marks₀ count₀ left₀ marks count left = left
+
+mark-of-requires : tie.Need-mark-of-requires Inv-loop μ-loop
+mark-of-requires c κs = search needs
 
 loop-holds : tie.Need-loop-holds Inv-loop μ-loop
 loop-holds c = search needs
@@ -38,12 +41,13 @@ loop-again-2 c = search needs
 returns : tie.Need-returns Inv-loop μ-loop
 returns c = search needs
 
-pub run-spec : {M : Type 1} → statement M
-run-spec =
+pub then-spec : {M : Type 1} → statement M
+then-spec =
     tie.close
     (tie.spec
     Inv-loop
     μ-loop
+    mark-of-requires
     loop-holds
     sub-left
     array-write-marks

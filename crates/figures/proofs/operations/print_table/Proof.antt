@@ -1,0 +1,48 @@
+-- `operations::print_table` is safe and ends: each row starts further on, and the measure is what is left of the table.
+-- Assumes nothing.
+use Prim.Native.Nat.{_≤_, _-_}
+use borrow.Author.Needs.{needs}
+use lib.ListN.{length}
+use Rattle.figures.proofs.operations.print_table.Statement.{statement}
+use Rattle.figures.proofs.operations.print_table.Tie as tie
+
+abbrev Inv-loop : tie.InvT-loop
+Inv-loop operation label table columns from₀ from = from ≤ length table
+
+abbrev μ-loop : tie.MeasureT-loop
+μ-loop operation label table columns from₀ from = length table - from
+
+columns-requires : tie.Need-columns-requires Inv-loop μ-loop
+columns-requires c κs = search needs
+
+loop-holds : tie.Need-loop-holds Inv-loop μ-loop
+loop-holds c = search needs
+
+print-row-requires : tie.Need-print-row-requires Inv-loop μ-loop
+print-row-requires c κs = search needs
+
+next-row-requires : tie.Need-next-row-requires Inv-loop μ-loop
+next-row-requires c κs = search needs
+
+loop-less : tie.Need-loop-less Inv-loop μ-loop
+loop-less c = search needs
+
+loop-again : tie.Need-loop-again Inv-loop μ-loop
+loop-again c = search needs
+
+returns : tie.Need-returns Inv-loop μ-loop
+returns c = search needs
+
+pub print-table-spec : {M : Type 1} → statement M
+print-table-spec =
+    tie.close
+    (tie.spec
+    Inv-loop
+    μ-loop
+    columns-requires
+    loop-holds
+    print-row-requires
+    next-row-requires
+    loop-less
+    loop-again
+    returns)
