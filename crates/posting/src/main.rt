@@ -1,6 +1,4 @@
 // Posts histories into records and totals lists of records. Each line written is held to the stored output.
-mod line;
-
 use election::Terms;
 use records::Contract;
 use records::Posted;
@@ -91,8 +89,50 @@ fn post_runs(contract: Contract, paid: usize, missed: usize, mark: u8, n: usize)
     )
 }
 
+// A line of output: numbers that end at given columns.
+struct Line {
+    bytes: [u8; 60],
+}
+
+fn blank_line() -> Line {
+    let mut bytes = [b' '; 60];
+    bytes[59] = b'\n';
+    Line { bytes }
+}
+
+// The last digit stands just before the column `end`.
+fn number(l: Line, end: usize, value: u64) -> Line {
+    let mut bytes = l.bytes;
+    let mut at = end;
+    let mut rest = value;
+    while 0 < at {
+        at -= 1;
+        if at < 59 {
+            bytes[at] = digit(rest);
+        }
+        rest = rest / 10;
+        if rest == 0 {
+            return Line { bytes };
+        }
+    }
+    Line { bytes }
+}
+
+fn digit(n: u64) -> u8 {
+    b'0' + (n % 10) as u8
+}
+
+fn write_line(l: Line) {
+    let bytes = l.bytes;
+    io::write_all(libc::STDOUT_FILENO, &bytes);
+}
+
+fn write_text(text: &[u8]) {
+    io::write_all(libc::STDOUT_FILENO, text);
+}
+
 // The answer to the last posting, then the record as it is left: its count, 1 for a bad one, its credit.
-fn show(l: line::Line, o: Outcome) {
+fn show(l: Line, o: Outcome) {
     let posted = o.posted;
     let left = o.contract;
     let check = records::check_record(left);
@@ -100,24 +140,24 @@ fn show(l: line::Line, o: Outcome) {
     if check.bad {
         bad = 1;
     }
-    let mut out = line::number(l, 35, posted.refusal as u64);
-    out = line::number(out, 41, posted.place as u64);
-    out = line::number(out, 47, left.count as u64);
-    out = line::number(out, 51, bad);
-    out = line::number(out, 59, check.credit.0);
-    line::write(out);
+    let mut out = number(l, 35, posted.refusal as u64);
+    out = number(out, 41, posted.place as u64);
+    out = number(out, 47, left.count as u64);
+    out = number(out, 51, bad);
+    out = number(out, 59, check.credit.0);
+    write_line(out);
 }
 
 fn history(contract: Contract, paid: usize, missed: usize, mark: u8, n: usize) {
-    let mut l = line::number(line::blank(), 6, paid as u64);
-    l = line::number(l, 13, missed as u64);
-    l = line::number(l, 19, mark as u64);
-    l = line::number(l, 25, n as u64);
+    let mut l = number(blank_line(), 6, paid as u64);
+    l = number(l, 13, missed as u64);
+    l = number(l, 19, mark as u64);
+    l = number(l, 25, n as u64);
     show(l, post_runs(contract, paid, missed, mark, n));
 }
 
 fn histories(c: Contract, lump: Contract) {
-    line::write_text(b"  paid missed  mark times   refusal place count bad  credit\n");
+    write_text(b"  paid missed  mark times   refusal place count bad  credit\n");
     // none, some, a gap of eleven, resumed
     history(c, 0, 0, 1, 0);
     history(c, 5, 0, 1, 0);
@@ -152,7 +192,7 @@ fn histories(c: Contract, lump: Contract) {
 fn after_the_end(c: Contract) {
     let out = post_runs(c, 12, 0, 2, 1);
     let ended = out.contract;
-    line::write_text(b"posted after 12 paid and the end\n");
+    write_text(b"posted after 12 paid and the end\n");
     history(ended, 1, 0, 1, 0);
     history(ended, 0, 1, 1, 0);
     history(ended, 0, 0, 2, 1);
@@ -161,14 +201,14 @@ fn after_the_end(c: Contract) {
 
 // A record with one mark and its count set from outside, into which a paid month is then posted.
 fn outside(terms: Terms, at: usize, mark: u8, count: usize) {
-    let mut l = line::number(line::blank(), 6, at as u64);
-    l = line::number(l, 12, mark as u64);
-    l = line::number(l, 19, count as u64);
+    let mut l = number(blank_line(), 6, at as u64);
+    l = number(l, 12, mark as u64);
+    l = number(l, 19, count as u64);
     show(l, post_runs(forged(terms, at, mark, count), 1, 0, 1, 0));
 }
 
 fn outside_records() {
-    line::write_text(b"    at  mark  count         refusal place count bad  credit\n");
+    write_text(b"    at  mark  count         refusal place count bad  credit\n");
     outside(monthly(), 0, 1, 1);
     outside(monthly(), 0, 1, 0);
     outside(monthly(), 239, 1, 0);
@@ -184,16 +224,16 @@ fn outside_records() {
 // The total over the first n records.
 fn total(list: [Contract; 65], n: usize) {
     let t = records::by_value::total_of_first(list, n);
-    let mut l = line::number(line::blank(), 7, n as u64);
-    l = line::number(l, 35, t.refusal as u64);
-    l = line::number(l, 41, t.index as u64);
-    l = line::number(l, 59, t.credit.0);
-    line::write(l);
+    let mut l = number(blank_line(), 7, n as u64);
+    l = number(l, 35, t.refusal as u64);
+    l = number(l, 41, t.index as u64);
+    l = number(l, 59, t.credit.0);
+    write_line(l);
 }
 
 fn totals(lump: Contract, paid: Contract, bad: Contract) {
     let mut list = [lump; 65];
-    line::write_text(b"records                     refusal index             total\n");
+    write_text(b"records                     refusal index             total\n");
     total(list, 0);
     total(list, 1);
     total(list, 64);

@@ -6,7 +6,6 @@ use Prim.Native.Nat.{ℕ, _<_, _≤_}
 use native.Mathlib.Decide.{ℕ-discrete}
 use borrow.Author.Tests.{lt-ltb, le-ltb, eq-eqb, ne-eqb, ltb-false, eqb-true, not-false}
 use lib.Dec.{ltb, eqb}
-use Rattle.common.specs.Choice.{pick}
 use Rattle.common.proofs.Tests.{or-false}
 use Rattle.money.specs.Money.{pension}
 use Rattle.money.specs.declared.PensionPence.{PensionPence}

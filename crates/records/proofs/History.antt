@@ -4,11 +4,11 @@
 use mathlib.Core.Bool.{Bool, true, false, _&&_}
 use mathlib.Core.List.{List, [], _∷_, _++_, append-nil}
 use mathlib.Core.Path.{_≡_, refl, sym, ap, subst, _∙_}
-use Prim.Native.Nat.{ℕ, zero, suc, _+_, _<_, _≤_}
+use Prim.Native.Nat.{ℕ, zero, suc, _+_}
 use native.Mathlib.Numerals.{add-one}
 use native.Mathlib.Omega.{arith}
 use lib.Dec.{T, eqb}
-use lib.ListN.{length, take, drop, set, replicate, length-set, length-append}
+use lib.ListN.{length, drop, length-set}
 use lib.Seq.{append-snoc, drop-set-lt, take-suc-set, take-append-seam}
 use Rattle.election.specs.declared.Terms.{Terms}
 use Rattle.marks.proofs.Term.{marks-counts, lawful-for-take}
@@ -16,11 +16,11 @@ use Rattle.marks.specs.declared.Reading.{Reading}
 use Rattle.settlement.specs.Settle.{settleOf}
 use Rattle.settlement.proofs.Laws.{terms-pass, refused-by-marks, lawful, settle-refusal}
 use Rattle.records.specs.declared.Contract.{Contract}
-use Rattle.records.specs.Record.{usedMarks, settledRecord, allZero, badRecord}
+use Rattle.records.specs.Record.{usedMarks, allZero, badRecord}
 use Rattle.records.specs.Post.{postRefusal, postOf, written, postedRecord}
 use Rattle.records.specs.History.{freshRecord, postedAll, NoneRefused, Holds}
 use Rattle.records.proofs.Bad.{Good, good-record, not-bad}
-use Rattle.records.proofs.Posting.{Taken, taken, good-refused, used-length, success-record}
+use Rattle.records.proofs.Posting.{taken, good-refused, success-record}
 
 zeros-further : (ms : List ℕ) (i : ℕ) → allZero (drop i ms) ≡ true → allZero (drop (suc i) ms) ≡ true
 unfolding allZero

@@ -6,7 +6,7 @@ use mathlib.Core.Path.{_≡_, sym, ap, _∙_}
 use Prim.Native.Nat.{ℕ, _+_, _*_, _<_, _≤_}
 use native.Mathlib.Omega.{arith}
 use borrow.Author.Tests.{eq-eqb, ne-eqb}
-use lib.ListN.{length, take, getD}
+use lib.ListN.{length, getD}
 use lib.Seq.{length-take-le, set-getD}
 use Rattle.common.proofs.Tests.{by-test}
 use Rattle.election.specs.declared.Terms.{Terms}
@@ -20,7 +20,7 @@ use Rattle.records.specs.declared.Contract.{Contract}
 use Rattle.records.specs.declared.Posted.{Posted}
 use Rattle.records.specs.Record.{usedMarks, badRecord}
 use Rattle.records.specs.Post.{postRefusal, placeOf, postOf, written, postedRecord}
-use Rattle.records.proofs.Bad.{Good, not-bad}
+use Rattle.records.proofs.Bad.{not-bad}
 
 -- terms that Settle accepts with some marks it refuses with others by the marks alone
 by-the-marks : (t : Terms) (ms ns : List ℕ) → settleOf t ms .refusal ≡ 0 → settleOf t ns .refusal ≡ marksOf (t .term) ns .refusal

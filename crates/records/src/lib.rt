@@ -1,8 +1,7 @@
 // The contract record: posting a month in its own memory, and a member's total over a list of records.
+ghost use mathlib.Core.Bool.{true};
 ghost use mathlib.Core.Path.{_≡_};
 ghost use Prim.Native.Nat.{_*_, _≤_};
-ghost use lib.ListN.{length};
-ghost use mathlib.Core.Bool.{true};
 ghost use Rattle.money.specs.Money.{pension};
 ghost use Rattle.records.specs.Record.{allZero, checkOf};
 ghost use Rattle.records.specs.Post.{postRefusal, placeOf, postOf, postedRecord, Decided};

@@ -1,12 +1,11 @@
 -- `records::add` meets its contract. No credit is above the cap, so the sum fits.
 -- Assumes nothing.
-use mathlib.Core.Path.{_≡_, sym, ap, _∙_}
-use Prim.Native.Nat.{ℕ, _≤_}
+use mathlib.Core.Path.{sym, ap, _∙_}
 use native.Mathlib.Omega.{arith}
 use borrow.Author.Needs.{needs}
 use Rattle.money.specs.declared.PensionPence.{PensionPence}
 use Rattle.settlement.proofs.Bounds.{settle-bounds}
-use Rattle.records.specs.Record.{usedMarks, settledRecord}
+use Rattle.records.specs.Record.{usedMarks}
 use Rattle.records.specs.Total.{addOf}
 use Rattle.records.proofs.Bad.{check-bad, check-credit}
 use Rattle.records.proofs.add.Statement.{statement}

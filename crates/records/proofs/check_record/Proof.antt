@@ -1,13 +1,12 @@
 -- `records::check_record` meets its contract: the tests in turn, then Settle of the marks in use.
 -- Assumes nothing.
-use mathlib.Core.Bool.{Bool, true, false}
-use mathlib.Core.List.{List}
-use mathlib.Core.Path.{_≡_, refl, sym, ap, _∙_}
-use Prim.Native.Nat.{ℕ, _-_, _≤_}
+use mathlib.Core.Bool.{Bool}
+use mathlib.Core.Path.{_≡_, sym, ap, _∙_}
+use Prim.Native.Nat.{_-_}
 use native.Mathlib.Omega.{arith}
 use borrow.Author.Needs.{needs}
 use borrow.Author.Tests.{not-true, not-false}
-use lib.ListN.{length, take, length-drop}
+use lib.ListN.{take, length-drop}
 use lib.Seq.{length-take-le, take-all}
 use Rattle.settlement.specs.Settle.{SettleNumbers, numbersOf}
 use Rattle.records.specs.declared.Contract.{Contract}
@@ -28,7 +27,10 @@ bad-record-requires : tie.Need-bad-record-requires
 bad-record-requires c κs = search needs
 
 returns : tie.Need-returns
-returns c = c .bad-record .ensures ∙ bad-check _ (count-bad _ (c .before .if1 .taken))
+returns c =
+    let start = c .before .before .before in
+    c .bad-record .ensures
+    ∙ bad-check (start .args .c) (count-bad (start .args .c) (omega (arith, c .before .if1 .taken)))
 
 part-all-zero-start : tie.Need-part-all-zero-start
 part-all-zero-start c = search needs

@@ -1,11 +1,10 @@
 -- `records::decide` meets its contract: success writes the mark at the count, a refusal what stands at 0.
 -- Assumes nothing.
-use mathlib.Core.Path.{_≡_, sym, _∙_}
-use Prim.Native.Nat.{ℕ, _<_}
+use mathlib.Core.Path.{sym, _∙_}
 use native.Mathlib.Omega.{arith}
 use borrow.Author.Needs.{needs}
 use Rattle.records.proofs.Cells.{marks-length}
-use Rattle.records.proofs.Posting.{Taken, taken, success-answer, success-record, refusal-answer, refusal-record, unchanged}
+use Rattle.records.proofs.Posting.{taken, success-answer, success-record, refusal-answer, refusal-record, unchanged}
 use Rattle.records.proofs.decide.Statement.{statement}
 use Rattle.records.proofs.decide.Tie as tie
 

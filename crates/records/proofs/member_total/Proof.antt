@@ -31,7 +31,7 @@ use types.Run.{look, look-raw, init, store, forget, stop, hop, fld, from, load, 
 use types.Run.{first, blocks, stays, leaves-loop, exec, Below, again, loops, returns, enter, alloc1, alloc0, params1, pass1, pass0, free1, free0}
 use types.Part.{whole, sub, look-in}
 use types.Share.{arr-parts}
-use sound.WpLaws.{FmC, fmOf, WpFn-mono}
+use sound.WpLaws.{fmOf, WpFn-mono}
 use denote.RattleType.{owns}
 use denote.Laws.{Is, shows}
 use denote.Memory.{pointee, shares}

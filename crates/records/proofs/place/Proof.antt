@@ -1,6 +1,5 @@
 -- `records::place` meets its contract: each return is one case of the definition.
 -- Assumes nothing.
-use borrow.Author.Needs.{needs}
 use Rattle.common.proofs.Tests.{tests}
 use Rattle.records.specs.Post.{placeOf}
 use Rattle.records.proofs.place.Statement.{statement}

@@ -1,13 +1,11 @@
 -- `records::refuse_post` meets its contract: a bad record, then no month left, then the mark after those in use.
 -- Assumes nothing.
-use mathlib.Core.Path.{_≡_, sym, ap, _∙_}
-use Prim.Native.Nat.{ℕ, _≤_}
+use mathlib.Core.Path.{sym, ap, _∙_}
 use native.Mathlib.Omega.{arith}
 use borrow.Author.Needs.{needs}
-use lib.ListN.{length, take}
 use Rattle.marks.specs.Reading.{oneMore, stepBy}
 use Rattle.marks.specs.declared.Reading.{Reading}
-use Rattle.records.proofs.Bad.{Good, not-bad, check-bad}
+use Rattle.records.proofs.Bad.{not-bad, check-bad}
 use Rattle.records.proofs.Cells.{marks-length}
 use Rattle.records.proofs.Posting.{bad-refused, used-length, over-refused, mark-refused}
 use Rattle.records.proofs.refuse_post.Statement.{statement}

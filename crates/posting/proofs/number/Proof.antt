@@ -1,9 +1,9 @@
--- `posting::line::number` is safe and ends.
+-- `posting::number` is safe and ends.
 -- Assumes nothing.
 use Prim.Native.Nat.{_≤_}
 use borrow.Author.Needs.{needs}
-use Rattle.posting.proofs.line.number.Statement.{statement}
-use Rattle.posting.proofs.line.number.Tie as tie
+use Rattle.posting.proofs.number.Statement.{statement}
+use Rattle.posting.proofs.number.Tie as tie
 
 abbrev Inv-loop : tie.InvT-loop
 Inv-loop end value bytes₀ at₀ rest₀ bytes at rest = at ≤ end
