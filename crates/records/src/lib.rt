@@ -40,7 +40,7 @@ struct Entry {
     posted: Posted,
 }
 
-// The refusal of a total, 0 for success, the index of the first bad record, and the total.
+// What a total answers; the index is that of a bad record.
 pub struct Total {
     pub refusal: u32,
     pub index: usize,
