@@ -16,10 +16,12 @@ pub fn named(name: &[u8], n: u64) {
     number(n);
 }
 
-// A line with one figure.
-pub fn figure(label: &[u8], n: u64) {
+// A line with one figure, at a pension age.
+pub fn figure(label: &[u8], years: u64, months: u64, n: u64) {
     text(label);
-    number(n);
+    named(b"at", years);
+    number(months);
+    named(b"is", n);
     text(b"\n");
 }
 

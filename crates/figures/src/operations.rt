@@ -6,6 +6,7 @@ use crate::line;
 use election::Terms;
 use money::PensionPence;
 use quotes::QuoteAnswer;
+use quotes::Quoted;
 use quotes::Register;
 use settlement::Settlement;
 
@@ -49,7 +50,8 @@ fn terms(table: &[u64], from: usize) -> Terms {
     }
 }
 
-fn print_terms(t: Terms) {
+fn print_terms(label: &[u8], t: Terms) {
+    line::text(label);
     line::named(b"terms", t.age as u64);
     line::number(t.years as u64);
     line::number(t.months as u64);
@@ -75,32 +77,32 @@ fn print_marks(table: &[u64], from: usize) {
     line::run(at(table, from, 13), at(table, from, 14));
 }
 
-fn rate(label: &[u8], table: &[u64], from: usize) {
-    let term = narrow(at(table, from, 3));
+// Columns 0 to 3: option, pension age, age, term.
+fn rate_of(table: &[u64], from: usize) -> u32 {
     let row = rates::monthly_row(
         narrow(at(table, from, 0)),
         narrow(at(table, from, 1)),
         narrow(at(table, from, 2)),
     );
+    rates::rate_in(row, narrow(at(table, from, 3)))
+}
+
+fn rate(label: &[u8], table: &[u64], from: usize) {
     line::text(label);
-    line::named(b"option", at(table, from, 0));
-    line::named(b"pension age", at(table, from, 1));
-    line::named(b"age", at(table, from, 2));
-    line::named(b"term", term as u64);
-    line::text(b" is");
-    line::number(rates::rate_in(row, term) as u64);
+    line::number(at(table, from, 0));
+    line::number(at(table, from, 1));
+    line::number(at(table, from, 2));
+    line::number(at(table, from, 3));
+    line::named(b"is", rate_of(table, from) as u64);
     line::text(b"\n");
 }
 
+// Column 0: existing pension. The answer is in pounds.
 fn cap_decision(label: &[u8], table: &[u64], from: usize) {
     let existing = at(table, from, 0);
     line::text(label);
-    line::named(b"existing", existing);
-    line::text(b" is");
-    line::named(
-        b"pounds",
-        quotes::cap_decision(PensionPence(existing)) as u64,
-    );
+    line::number(existing);
+    line::named(b"is", quotes::cap_decision(PensionPence(existing)) as u64);
     line::text(b"\n");
 }
 
@@ -112,15 +114,7 @@ fn print_quote(refusal: u32, contribution: u64, number: u32, register: Register)
     line::text(b"\n");
 }
 
-fn quote(label: &[u8], table: &[u64], from: usize) {
-    let t = terms(table, from);
-    let existing = at(table, from, 7);
-    let last = narrow(at(table, from, 8));
-    line::text(label);
-    print_terms(t);
-    line::named(b"existing", existing);
-    line::named(b"last", last as u64);
-    let quoted = quotes::quote(t, PensionPence(existing), Register { last });
+fn print_quoted(quoted: Quoted) {
     let answer = quoted.answer;
     let register = quoted.register;
     match answer {
@@ -130,6 +124,17 @@ fn quote(label: &[u8], table: &[u64], from: usize) {
             number,
         } => print_quote(0, contribution.0, number, register),
     }
+}
+
+// Columns 7 and 8: existing pension and the register's last number.
+fn quote(label: &[u8], table: &[u64], from: usize) {
+    let t = terms(table, from);
+    let existing = at(table, from, 7);
+    let last = narrow(at(table, from, 8));
+    print_terms(label, t);
+    line::named(b"existing", existing);
+    line::named(b"last", last as u64);
+    print_quoted(quotes::quote(t, PensionPence(existing), Register { last }));
 }
 
 fn print_refused(refusal: u32, place: usize) {
@@ -145,14 +150,12 @@ fn print_settled(contribution: u64, status: u32, credit: u64, refund: u64) {
     line::text(b"\n");
 }
 
-fn settle(label: &[u8], table: &[u64], from: usize) {
-    let t = terms(table, from);
-    let months = marks(table, from);
+fn settlement_of(t: Terms, months: Elapsed) -> Settlement {
     let all = months.marks;
-    line::text(label);
-    print_terms(t);
-    print_marks(table, from);
-    let answer = settlement::settle(t, elapsed::first(&all, months.count));
+    settlement::settle(t, elapsed::first(&all, months.count))
+}
+
+fn print_settlement(answer: Settlement) {
     match answer {
         Settlement::Refused { refusal, place } => {
             print_refused(refusal, place);
@@ -170,21 +173,11 @@ fn settle(label: &[u8], table: &[u64], from: usize) {
     }
 }
 
-// Each entry of the lent list holds 7 before the call. The whole list is printed.
-fn schedule(label: &[u8], table: &[u64], from: usize) {
+fn settle(label: &[u8], table: &[u64], from: usize) {
     let t = terms(table, from);
-    let months = marks(table, from);
-    let all = months.marks;
-    let entries = at(table, from, 15) as usize;
-    let mut list = [7u32; 20];
-    line::text(label);
-    print_terms(t);
+    print_terms(label, t);
     print_marks(table, from);
-    line::named(b"entries", entries as u64);
-    if entries > 20 {
-        return;
-    }
-    schedule_into(t, elapsed::first(&all, months.count), &mut list[..entries]);
+    print_settlement(settlement_of(t, marks(table, from)));
 }
 
 fn schedule_into(t: Terms, months: &[u8], list: &mut [u32]) {
@@ -193,6 +186,26 @@ fn schedule_into(t: Terms, months: &[u8], list: &mut [u32]) {
     line::text(b" list");
     line::numbers(list);
     line::text(b"\n");
+}
+
+// Each entry of the lent list holds 7 before the call. The whole list is printed.
+fn schedule_of(t: Terms, months: Elapsed, entries: usize) {
+    let all = months.marks;
+    let mut list = [7u32; 20];
+    if entries > 20 {
+        return;
+    }
+    schedule_into(t, elapsed::first(&all, months.count), &mut list[..entries]);
+}
+
+// Column 15: entries of the list.
+fn schedule(label: &[u8], table: &[u64], from: usize) {
+    let t = terms(table, from);
+    let entries = at(table, from, 15);
+    print_terms(label, t);
+    print_marks(table, from);
+    line::named(b"entries", entries);
+    schedule_of(t, marks(table, from), entries as usize);
 }
 
 fn print_row(operation: Operation, label: &[u8], table: &[u64], from: usize) {

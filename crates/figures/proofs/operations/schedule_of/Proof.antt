@@ -1,0 +1,37 @@
+-- `operations::schedule_of` is safe: the part of the list that it lends has as many entries as were asked for.
+-- Assumes nothing.
+use mathlib.Core.Path.{sym}
+use native.Mathlib.Omega.{arith}
+use borrow.Author.Needs.{needs}
+use lib.Seq.{length-take-le}
+use Rattle.figures.proofs.operations.schedule_of.Statement.{statement}
+use Rattle.figures.proofs.operations.schedule_of.Tie as tie
+
+returns : tie.Need-returns
+returns c = search needs
+
+first-requires : tie.Need-first-requires
+first-requires c κs = search needs
+
+array-borrow-prefix-list : tie.Need-array-borrow-prefix-list
+array-borrow-prefix-list c = search needs
+
+slice-aggregate-schedule-into : tie.Need-slice-aggregate-schedule-into
+slice-aggregate-schedule-into c = sym (length-take-le _ _ (omega arith))
+
+schedule-into-requires : tie.Need-schedule-into-requires
+schedule-into-requires c κs = search needs
+
+returns-2 : tie.Need-returns-2
+returns-2 c = search needs
+
+pub schedule-of-spec : {M : Type 1} → statement M
+schedule-of-spec =
+    tie.close
+    (tie.spec
+    returns
+    first-requires
+    array-borrow-prefix-list
+    slice-aggregate-schedule-into
+    schedule-into-requires
+    returns-2)
