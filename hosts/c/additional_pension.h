@@ -6,7 +6,8 @@
  *
  * What a caller owes. Of the numbers, nothing: every number has an answer, and what the scheme does not allow is refused. Of
  * the memory, what every C function is owed: a pointer stands for as many bytes as the length beside it says, nothing else
- * writes them during the call, and the two pieces lent to ap_settle do not overlap. A piece needs no alignment.
+ * writes them during the call, and the two pieces lent to ap_settle do not overlap. A piece needs no alignment. A pointer is not
+ * null, also where its length is 0.
  */
 #ifndef ADDITIONAL_PENSION_H
 #define ADDITIONAL_PENSION_H
