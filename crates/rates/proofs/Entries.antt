@@ -4,6 +4,7 @@ use mathlib.Core.Path.{_≡_, refl}
 use mathlib.Core.Bool.{Bool, true, false}
 use mathlib.Core.List.{List, []}
 use Prim.Native.Nat.{ℕ, _+_, _-_, _*_, _≤_, _<_}
+use native.Mathlib.Decide.{decLt}
 use native.Mathlib.Omega.{arith}
 use lib.Dec.{ltb}
 use lib.ListN.{getD}
@@ -48,3 +49,11 @@ zeros false = refl
 pub entry-none : (age term : ℕ) → cellOf [] age term ≡ 0
 unfolding cellOf
 entry-none age term = simp zeros
+
+-- an age or a term that has no place has no entry
+pub entry-out : (table : List ℕ) (age term : ℕ) → (Placed age term → ⊥) → cellOf table age term ≡ 0
+entry-out table age term out = go (decLt 0 (cellOf table age term))
+  where
+    go : Dec (0 < cellOf table age term) → cellOf table age term ≡ 0
+    go (yes h) = absurd (out (entry-placed table age term h))
+    go (no h) = omega arith

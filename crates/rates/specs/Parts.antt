@@ -1,0 +1,14 @@
+-- The three parts in which the code holds a monthly table, each of seventeen ages.
+-- Assumes nothing.
+use mathlib.Core.List.{List}
+use Prim.Native.Nat.{ℕ, _+_, _*_, _-_}
+use lib.ListN.{getD, take, drop}
+use Rattle.common.specs.Table.{tabulate}
+
+-- part k of a table, counted from 0
+abbrev pub partOf : ℕ → List ℕ → List ℕ
+partOf k table = take 340 (drop (340 * k) table)
+
+-- the entries of a line of a part, for the terms 1 to 20
+unfoldable pub lineIn : List ℕ → ℕ → List ℕ
+lineIn part line = tabulate (λ term. getD part (line * 20 + (term - 1)) 0) 1 20
