@@ -15,22 +15,18 @@ pub const EXAMPLES: [u64; 36] = [
 pub const HEADROOM: [u64; 1] = [112100];
 
 // Terms, marks.
-pub const STOPS: [u64; 90] = [
-    40, 67, 0, 2, 1, 9, 1250, 1, 60, 2,  1, 0, 0, 0, 0, // A1: notice after five years
-    46, 67, 0, 2, 1, 9, 1250, 1, 61, 2,  1, 0, 0, 0, 0, // A2: notice a month later
-    50, 67, 0, 2, 1, 9, 1250, 1,  5, 0,  0, 0, 0, 0, 0, // A3: five months paid
-    50, 67, 0, 2, 1, 9, 1250, 1,  5, 0,  7, 0, 0, 0, 0, // A3: then a gap that is open
-    50, 67, 0, 2, 1, 9, 1250, 1,  5, 0, 12, 0, 0, 0, 0, // A3: and one that is too long
-    50, 67, 0, 2, 1, 9, 1250, 1,  5, 2,  1, 0, 0, 0, 0, // A3: or notice
-];
-
-// Terms, marks: none of the payments after the gap, one, twelve, and all.
-pub const GAP: [u64; 75] = [
-    54, 67, 0, 1, 1, 4, 1000, 1, 19, 0, 0, 0,  0, 0, 0,
-    54, 67, 0, 1, 1, 4, 1000, 1, 19, 0, 8, 0,  0, 0, 0,
-    54, 67, 0, 1, 1, 4, 1000, 1, 19, 0, 8, 1,  1, 0, 0,
-    54, 67, 0, 1, 1, 4, 1000, 1, 19, 0, 8, 1, 12, 0, 0,
-    54, 67, 0, 1, 1, 4, 1000, 1, 19, 0, 8, 1, 21, 0, 0,
+pub const CREDITS: [u64; 165] = [
+    40, 67, 0, 2, 1, 9, 1250, 1, 60, 2,  1, 0,  0, 0, 0, // A1: notice after five years
+    46, 67, 0, 2, 1, 9, 1250, 1, 61, 2,  1, 0,  0, 0, 0, // A2: notice a month later
+    50, 67, 0, 2, 1, 9, 1250, 1,  5, 0,  0, 0,  0, 0, 0, // A3: five months paid
+    50, 67, 0, 2, 1, 9, 1250, 1,  5, 0,  7, 0,  0, 0, 0, // A3: then a gap that is open
+    50, 67, 0, 2, 1, 9, 1250, 1,  5, 0, 12, 0,  0, 0, 0, // A3: and one that is too long
+    50, 67, 0, 2, 1, 9, 1250, 1,  5, 2,  1, 0,  0, 0, 0, // A3: or notice
+    54, 67, 0, 1, 1, 4, 1000, 1, 19, 0,  0, 0,  0, 0, 0, // A4: before the gap
+    54, 67, 0, 1, 1, 4, 1000, 1, 19, 0,  8, 0,  0, 0, 0, // A4: in it
+    54, 67, 0, 1, 1, 4, 1000, 1, 19, 0,  8, 1,  1, 0, 0, // A4: a month after it
+    54, 67, 0, 1, 1, 4, 1000, 1, 19, 0,  8, 1, 12, 0, 0, // A4: twelve months after it
+    54, 67, 0, 1, 1, 4, 1000, 1, 19, 0,  8, 1, 21, 0, 0, // A4: paid to the end of the term
 ];
 
 // Terms, marks: document 001's contract after nine months, and with notice after twelve.

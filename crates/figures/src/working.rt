@@ -3,6 +3,11 @@ use crate::line;
 use crate::operations::narrow;
 use money::ContributionPence;
 
+fn figure(label: &[u8], n: u64) {
+    line::named(label, n);
+    line::text(b"\n");
+}
+
 // A table's own contribution: £1,500 is six times £250.
 fn contribution(rate: u32) -> u32 {
     narrow(ContributionPence::of_units(6, rate).0)
@@ -16,22 +21,29 @@ fn year(contribution: u32, rate: u32) -> u32 {
 pub fn contributions() {
     let lower = contribution(8890);
     let upper = contribution(8430);
-    line::figure(b"001 contribution", 66, 0, lower as u64);
-    line::figure(b"001 contribution", 67, 0, upper as u64);
-    line::figure(b"001 contribution", 66, 5, rounding::blend(5, lower, upper));
-}
-
-// One table's credit for the nine months, from its rates for the term and for one year.
-fn credit(pension_age: u64, term_rate: u32, year_rate: u32) -> u32 {
-    let first = year(contribution(term_rate), year_rate);
-    line::figure(b"001 year 1", pension_age, 0, first as u64);
-    let months = rounding::blend(9, 0, first);
-    line::figure(b"001 nine months", pension_age, 0, months);
-    narrow(months)
+    figure(b"001 contribution at 66 is", lower as u64);
+    figure(b"001 contribution at 67 is", upper as u64);
+    figure(
+        b"001 contribution at both is",
+        rounding::blend(5, lower, upper),
+    );
 }
 
 pub fn credits() {
-    let lower = credit(66, 8890, 32940);
-    let upper = credit(67, 8430, 31240);
-    line::figure(b"001 nine months", 66, 5, rounding::blend(5, lower, upper));
+    let lower = year(contribution(8890), 32940);
+    let upper = year(contribution(8430), 31240);
+    figure(b"001 year 1 at 66 is", lower as u64);
+    figure(b"001 year 1 at 67 is", upper as u64);
+    months(lower, upper);
+}
+
+fn months(lower: u32, upper: u32) {
+    let at_66 = rounding::blend(9, 0, lower);
+    let at_67 = rounding::blend(9, 0, upper);
+    figure(b"001 nine months at 66 is", at_66);
+    figure(b"001 nine months at 67 is", at_67);
+    figure(
+        b"001 nine months at both is",
+        rounding::blend(5, narrow(at_66), narrow(at_67)),
+    );
 }
