@@ -29,6 +29,21 @@ pub const CREDITS: [u64; 165] = [
     54, 67, 0, 1, 1, 4, 1000, 1, 19, 0,  8, 1, 21, 0, 0, // A4: paid to the end of the term
 ];
 
+// Document 001's working, with the rates that it prints: £1,500, six times £250, over 4 years, of which nine months are paid.
+// Contribution times £250, the rate for one year.
+pub const FIRST_YEARS: [u64; 4] = [
+    1333500000, 32940, // 533.40, at 66
+    1264500000, 31240, // 505.80, at 67
+];
+
+// Twelfths, the lower figure, the upper one.
+pub const BLENDS: [u64; 12] = [
+    5, 53340, 50580, // the contribution
+    9,     0, 40483, // nine months at 66
+    9,     0, 40477, // nine months at 67
+    5, 30362, 30358, // the credit
+];
+
 // Terms, marks: document 001's contract after nine months, and with notice after twelve.
 pub const ODD_MONTHS: [u64; 30] = [
     60, 66, 5, 1, 1, 4, 1500, 1,  9, 0, 0, 0, 0, 0, 0,

@@ -4,7 +4,6 @@ mod cases;
 mod elapsed;
 mod line;
 mod operations;
-mod working;
 
 use operations::Operation;
 use operations::print_table;
@@ -20,8 +19,8 @@ fn document_000_credits() {
 }
 
 fn document_001() {
-    working::contributions();
-    working::credits();
+    print_table(Operation::Nearest, b"001 nearest", &cases::FIRST_YEARS);
+    print_table(Operation::Blend, b"001 blend", &cases::BLENDS);
     print_table(Operation::Settle, b"001 settle", &cases::ODD_MONTHS);
 }
 

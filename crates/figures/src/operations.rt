@@ -10,6 +10,8 @@ use quotes::Register;
 use settlement::Settlement;
 
 pub enum Operation {
+    Nearest,
+    Blend,
     Rate,
     CapDecision,
     Quote,
@@ -26,7 +28,7 @@ fn at(row: &[u64], column: usize) -> u64 {
 }
 
 // A number as wide as the operations take it; the greatest such number for a greater one.
-pub fn narrow(n: u64) -> u32 {
+fn narrow(n: u64) -> u32 {
     if n > 4294967295 {
         return 4294967295;
     }
@@ -52,6 +54,15 @@ fn marks(row: &[u64]) -> Elapsed {
     let second = elapsed::then(first, at(row, 9), at(row, 10));
     let third = elapsed::then(second, at(row, 11), at(row, 12));
     elapsed::then(third, at(row, 13), at(row, 14))
+}
+
+fn nearest(row: &[u64]) {
+    line::number(rounding::nearest(at(row, 0), at(row, 1)));
+}
+
+fn blend(row: &[u64]) {
+    let twelfths = narrow(at(row, 0));
+    line::number(rounding::blend(twelfths, narrow(at(row, 1)), narrow(at(row, 2))));
 }
 
 fn rate(row: &[u64]) {
@@ -149,6 +160,8 @@ fn schedule(row: &[u64]) {
 
 fn print_answer(operation: Operation, row: &[u64]) {
     match operation {
+        Operation::Nearest => nearest(row),
+        Operation::Blend => blend(row),
         Operation::Rate => rate(row),
         Operation::CapDecision => cap_decision(row),
         Operation::Quote => quote(row),
@@ -159,6 +172,8 @@ fn print_answer(operation: Operation, row: &[u64]) {
 
 fn columns(operation: Operation) -> usize {
     match operation {
+        Operation::Nearest => 2,
+        Operation::Blend => 3,
         Operation::Rate => 4,
         Operation::CapDecision => 1,
         Operation::Quote => 9,
