@@ -13,17 +13,12 @@ pub fn none() -> Elapsed {
     }
 }
 
-// The mark itself; 255 for a greater one.
-fn mark_of(n: u64) -> u8 {
-    if n > 255 {
-        return 255;
-    }
-    n as u8
-}
-
-// One run more, as far as there is room.
+// One run more, as far as there is room. What is no byte is no mark, and adds nothing.
 pub fn then(before: Elapsed, n: u64, months: u64) -> Elapsed {
-    let mark = mark_of(n);
+    if n > 255 {
+        return before;
+    }
+    let mark = n as u8;
     let mut marks = before.marks;
     let mut count = before.count;
     let mut left = months;

@@ -11,39 +11,26 @@ pub fn number(n: u64) {
 }
 
 pub fn named(name: &[u8], n: u64) {
-    text(b" ");
     text(name);
     number(n);
 }
 
-// A line with one figure, at a pension age.
-pub fn figure(label: &[u8], years: u64, months: u64, n: u64) {
-    text(label);
-    named(b"at", years);
-    number(months);
-    named(b"is", n);
-    text(b"\n");
-}
-
-// So many months of one mark, as 1x19; nothing where there are none.
-pub fn run(mark: u64, months: u64) {
-    if months == 0 {
-        return;
-    }
-    number(mark);
-    text(b"x");
-    io::print_decimal(STDOUT_FILENO, months);
-}
-
-// Each number of a list.
-pub fn numbers(list: &[u32]) {
+pub fn numbers(list: &[u64]) {
     let mut i = 0;
     while i < list.len() {
-        number(wide(list[i]));
+        number(list[i]);
         i += 1;
     }
 }
 
 fn wide(n: u32) -> u64 {
     n as u64
+}
+
+pub fn entries(list: &[u32]) {
+    let mut i = 0;
+    while i < list.len() {
+        number(wide(list[i]));
+        i += 1;
+    }
 }

@@ -4,46 +4,33 @@ mod cases;
 mod elapsed;
 mod line;
 mod operations;
-mod working;
 
 use operations::Operation;
 use operations::print_table;
 
-// Each function has few tables: a check carries the tables of a function through all of it.
+// The tables are spread over functions, since a check carries a function's tables through all of it.
 fn document_000() {
-    print_table(Operation::Quote, b"000 examples 1 to 4", &cases::EXAMPLES);
-    print_table(Operation::CapDecision, b"000 example 5", &cases::HEADROOM);
-    print_table(Operation::Settle, b"000 examples A1 to A3", &cases::STOPS);
+    print_table(Operation::Quote, b"000 quote", &cases::EXAMPLES);
+    print_table(Operation::CapDecision, b"000 cap", &cases::HEADROOM);
 }
 
-fn document_000_gap() {
-    print_table(Operation::Settle, b"000 example A4", &cases::GAP);
+fn document_000_credits() {
+    print_table(Operation::Settle, b"000 settle", &cases::CREDITS);
 }
 
 fn document_001() {
-    working::contributions();
-    working::credits();
-    print_table(
-        Operation::Settle,
-        b"001 at the rates of 000",
-        &cases::ODD_MONTHS,
-    );
+    print_table(Operation::Nearest, b"001 nearest", &cases::FIRST_YEARS);
+    print_table(Operation::Blend, b"001 blend", &cases::BLENDS);
+    print_table(Operation::Settle, b"001 settle", &cases::ODD_MONTHS);
 }
 
 fn document_01() {
     print_table(Operation::Rate, b"01 rate", &cases::RATES);
+    print_table(Operation::CapDecision, b"cap", &cases::CAP_DECISIONS);
 }
 
 fn quotes() {
     print_table(Operation::Quote, b"quote", &cases::QUOTES);
-}
-
-fn cap_decisions() {
-    print_table(
-        Operation::CapDecision,
-        b"cap decision",
-        &cases::CAP_DECISIONS,
-    );
 }
 
 fn settlements() {
@@ -56,11 +43,10 @@ fn schedules() {
 
 fn main() {
     document_000();
-    document_000_gap();
+    document_000_credits();
     document_001();
     document_01();
     quotes();
-    cap_decisions();
     settlements();
     schedules();
 }

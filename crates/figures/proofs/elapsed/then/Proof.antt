@@ -11,8 +11,11 @@ Inv-loop n months mark marks₀ count₀ left₀ marks count left = left ≤ mon
 abbrev μ-loop : tie.MeasureT-loop
 μ-loop n months mark marks₀ count₀ left₀ marks count left = left
 
-mark-of-requires : tie.Need-mark-of-requires Inv-loop μ-loop
-mark-of-requires c κs = search needs
+returns : tie.Need-returns Inv-loop μ-loop
+returns c = search needs
+
+cast-mark : tie.Need-cast-mark Inv-loop μ-loop
+cast-mark c = search needs
 
 loop-holds : tie.Need-loop-holds Inv-loop μ-loop
 loop-holds c = search needs
@@ -38,8 +41,8 @@ loop-less-2 c = search needs
 loop-again-2 : tie.Need-loop-again-2 Inv-loop μ-loop
 loop-again-2 c = search needs
 
-returns : tie.Need-returns Inv-loop μ-loop
-returns c = search needs
+returns-2 : tie.Need-returns-2 Inv-loop μ-loop
+returns-2 c = search needs
 
 pub then-spec : {M : Type 1} → statement M
 then-spec =
@@ -47,7 +50,8 @@ then-spec =
     (tie.spec
     Inv-loop
     μ-loop
-    mark-of-requires
+    returns
+    cast-mark
     loop-holds
     sub-left
     array-write-marks
@@ -56,4 +60,4 @@ then-spec =
     loop-again
     loop-less-2
     loop-again-2
-    returns)
+    returns-2)

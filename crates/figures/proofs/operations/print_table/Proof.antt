@@ -18,11 +18,23 @@ columns-requires c κs = search needs
 loop-holds : tie.Need-loop-holds Inv-loop μ-loop
 loop-holds c = search needs
 
-print-row-requires : tie.Need-print-row-requires Inv-loop μ-loop
-print-row-requires c κs = search needs
-
 next-row-requires : tie.Need-next-row-requires Inv-loop μ-loop
 next-row-requires c κs = search needs
+
+mul-print-row : tie.Need-mul-print-row Inv-loop μ-loop
+mul-print-row c = search needs
+
+sub-print-row : tie.Need-sub-print-row Inv-loop μ-loop
+sub-print-row c = search needs
+
+part-print-row-start : tie.Need-part-print-row-start Inv-loop μ-loop
+part-print-row-start c = search needs
+
+part-print-row-end : tie.Need-part-print-row-end Inv-loop μ-loop
+part-print-row-end c = search needs
+
+print-row-requires : tie.Need-print-row-requires Inv-loop μ-loop
+print-row-requires c κs = search needs
 
 loop-less : tie.Need-loop-less Inv-loop μ-loop
 loop-less c = search needs
@@ -41,8 +53,12 @@ print-table-spec =
     μ-loop
     columns-requires
     loop-holds
-    print-row-requires
     next-row-requires
+    mul-print-row
+    sub-print-row
+    part-print-row-start
+    part-print-row-end
+    print-row-requires
     loop-less
     loop-again
     returns)

@@ -1,14 +1,23 @@
--- `operations::schedule_of` is safe: the part of the list that it lends has as many entries as were asked for.
+-- `operations::schedule` is safe: the part of the list that it lends has as many entries as the row asks for.
 -- Assumes nothing.
 use mathlib.Core.Path.{sym}
 use native.Mathlib.Omega.{arith}
 use borrow.Author.Needs.{needs}
 use lib.Seq.{length-take-le}
-use Rattle.figures.proofs.operations.schedule_of.Statement.{statement}
-use Rattle.figures.proofs.operations.schedule_of.Tie as tie
+use Rattle.figures.proofs.operations.schedule.Statement.{statement}
+use Rattle.figures.proofs.operations.schedule.Tie as tie
+
+marks-requires : tie.Need-marks-requires
+marks-requires c κs = search needs
+
+at-requires : tie.Need-at-requires
+at-requires c κs = search needs
 
 returns : tie.Need-returns
 returns c = search needs
+
+terms-requires : tie.Need-terms-requires
+terms-requires c κs = search needs
 
 first-requires : tie.Need-first-requires
 first-requires c κs = search needs
@@ -25,11 +34,14 @@ schedule-into-requires c κs = search needs
 returns-2 : tie.Need-returns-2
 returns-2 c = search needs
 
-pub schedule-of-spec : {M : Type 1} → statement M
-schedule-of-spec =
+pub schedule-spec : {M : Type 1} → statement M
+schedule-spec =
     tie.close
     (tie.spec
+    marks-requires
+    at-requires
     returns
+    terms-requires
     first-requires
     array-borrow-prefix-list
     slice-aggregate-schedule-into
