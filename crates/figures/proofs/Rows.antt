@@ -4,13 +4,13 @@ use mathlib.Core.List.{map}
 use mathlib.Core.Path.{_≡_, refl}
 use Rattle.common.specs.Table.{tabulate}
 use Rattle.rounding.specs.Nearest.{nearest, blend, combine}
-use Rattle.rates.specs.Rates.{tableOf, entryOf, rateOf}
+use Rattle.rates.specs.Rates.{tableOf, cellOf, rateOf}
 use Rattle.election.specs.Rate.{tableRate}
 use Rattle.election.specs.Rules.{wrongOption, wrongPensionAge, wrongTerm, wrongPayer, noLowerRate, noUpperRate, wrongAmount, aboveCap, refusalOf}
 use Rattle.election.specs.Price.{contributionAt, contributionIn, contributionOf}
 use Rattle.marks.specs.Counts.{lastOr, allPaid, paidMonths, paidThrough, finalGap}
 use Rattle.marks.specs.Status.{stoppedOf, statusOf}
-use Rattle.marks.specs.Reading.{nextRefusalOf, afterMark, stepBy, readOn, marksOf}
+use Rattle.marks.specs.Reading.{nextRefusalOf, countMark, stepBy, readOn, marksOf}
 use Rattle.credit.specs.Years.{yearCredit, yearCredits, monthValue}
 use Rattle.credit.specs.Runs.{runsFrom, runFrom, runsIn}
 use Rattle.credit.specs.Credit.{earned, creditOver, creditIn}
@@ -19,5 +19,5 @@ use Rattle.settlement.specs.Settle.{settleRefusal, settlePlace, creditAtStatus,
 use Rattle.figures.specs.Rows.{Row, priceRows, creditRows, statusRows, tellingRows, rows}
 
 pub all-rows : map (λ (r : Row). r .found) rows ≡ map (λ (r : Row). r .stated) rows
-unfolding rows priceRows creditRows statusRows tellingRows settleOf settleRefusal settlePlace creditAtStatus refundAtStatus creditOf creditIn creditOver earned runsIn runsFrom runFrom monthValue yearCredits yearCredit tabulate marksOf readOn stepBy nextRefusalOf afterMark statusOf stoppedOf lastOr allPaid paidMonths paidThrough finalGap contributionOf contributionIn contributionAt tableRate rateOf entryOf tableOf combine blend nearest refusalOf wrongOption wrongPensionAge wrongTerm wrongPayer noLowerRate noUpperRate wrongAmount aboveCap
+unfolding rows priceRows creditRows statusRows tellingRows settleOf settleRefusal settlePlace creditAtStatus refundAtStatus creditOf creditIn creditOver earned runsIn runsFrom runFrom monthValue yearCredits yearCredit tabulate marksOf readOn stepBy nextRefusalOf countMark statusOf stoppedOf lastOr allPaid paidMonths paidThrough finalGap contributionOf contributionIn contributionAt tableRate rateOf cellOf tableOf combine blend nearest refusalOf wrongOption wrongPensionAge wrongTerm wrongPayer noLowerRate noUpperRate wrongAmount aboveCap
 all-rows = refl
