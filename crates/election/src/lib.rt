@@ -150,7 +150,7 @@ fn rates_at(t: Terms, pension_age: u32) -> [u32; 20]
     if t.term == 0 {
         return [0u32; 20];
     }
-    rates::monthly_row(t.option, pension_age, t.age)
+    monthly::monthly_row(t.option, pension_age, t.age)
 }
 
 // The same of the upper table, which only odd months need.

@@ -70,7 +70,7 @@ fn rate(row: &[u64]) {
     let pension_age = narrow(at(row, 1));
     let age = narrow(at(row, 2));
     let term = narrow(at(row, 3));
-    line::number(rates::rate_in(rates::monthly_row(option, pension_age, age), term) as u64);
+    line::number(rates::rate_in(monthly::monthly_row(option, pension_age, age), term) as u64);
 }
 
 fn cap_decision(row: &[u64]) {

@@ -1,6 +1,6 @@
 mod Walk
-mod Entries
-mod Tables
+pub mod Entries
+pub mod Tables
 mod Monthly
 mod LumpSum
 pub mod Laws

@@ -1,4 +1,4 @@
--- `rates::line_of` meets its contract. The loop's invariant: the first k places hold the line's entries for the terms 1 to k.
+-- `monthly::line_of` meets its contract. The loop's invariant: the first k places hold the line's entries for the terms 1 to k.
 -- Assumes nothing.
 use mathlib.Core.Path.{_≡_, refl, ap}
 use mathlib.Core.List.{List}
@@ -7,19 +7,19 @@ use native.Mathlib.Omega.{arith}
 use lib.ListN.{length, getD, length-set}
 use borrow.Author.Needs.{needs}
 use Rattle.common.proofs.Table.{is-tabulate, one-more}
-use Rattle.rates.specs.Parts.{lineIn}
-use Rattle.rates.proofs.line_of.Statement.{statement}
-use Rattle.rates.proofs.line_of.Tie as tie
+use Rattle.monthly.specs.Parts.{lineIn}
+use Rattle.monthly.proofs.line_of.Statement.{statement}
+use Rattle.monthly.proofs.line_of.Tie as tie
 
 abbrev entry : List ℕ → ℕ → ℕ → ℕ
 entry part line term = getD part (line * 20 + (term - 1)) 0
 
 abbrev Inv-loop : tie.InvT-loop
-Inv-loop part line row₀ start k₀ row k =
+Inv-loop line part row₀ start k₀ row k =
     (k ≤ 20) × (length row ≡ 20) × ((n : ℕ) → n < k → getD row n 0 ≡ entry part line (1 + n))
 
 abbrev μ-loop : tie.MeasureT-loop
-μ-loop part line row₀ start k₀ row k = 20 - k
+μ-loop line part row₀ start k₀ row k = 20 - k
 
 mul-start : tie.Need-mul-start Inv-loop μ-loop
 mul-start c = search needs
@@ -36,8 +36,8 @@ add-row c = search needs
 mul-row : tie.Need-mul-row Inv-loop μ-loop
 mul-row c = search needs
 
-element-copy-out-row : tie.Need-element-copy-out-row Inv-loop μ-loop
-element-copy-out-row c = search needs
+array-read-row : tie.Need-array-read-row Inv-loop μ-loop
+array-read-row c = search needs
 
 mul-row-2 : tie.Need-mul-row-2 Inv-loop μ-loop
 mul-row-2 c = search needs
@@ -59,9 +59,9 @@ next part line k =
 
 loop-again : tie.Need-loop-again Inv-loop μ-loop
 loop-again c =
-    let l = c .before .before .loop in
-    let a = c .before .before .before .args in
-    let more = one-more (l .row) (λ (n : ℕ). entry (a .part .now) (a .line) (1 + n)) (l .k) _ (omega arith) (l .inv .2) (next (a .part .now) (a .line) (l .k)) in
+    let l = c .before .loop in
+    let a = c .before .before .args in
+    let more = one-more (l .row) (λ (n : ℕ). entry (a .t1) (a .line) (1 + n)) (l .k) _ (omega arith) (l .inv .2) (next (a .t1) (a .line) (l .k)) in
     (omega arith, simp length-set (l .inv .1), more)
 
 returns : tie.Need-returns Inv-loop μ-loop
@@ -79,7 +79,7 @@ line-of-spec =
     loop-holds
     add-row
     mul-row
-    element-copy-out-row
+    array-read-row
     mul-row-2
     array-write-row
     add-k
