@@ -9,7 +9,7 @@ use Rattle.election.specs.Rate.{tableRate}
 use Rattle.election.specs.Rules.{wrongOption, wrongPensionAge, wrongTerm, wrongPayer, noLowerRate, noUpperRate, wrongAmount, aboveCap, refusalOf}
 use Rattle.election.specs.Price.{contributionAt, contributionIn, contributionOf}
 use Rattle.marks.specs.Counts.{lastOr, allPaid, paidMonths, paidThrough, finalGap}
-use Rattle.marks.specs.Status.{stoppedOf, statusOf}
+use Rattle.status.specs.Status.{stoppedOf, statusOf}
 use Rattle.marks.specs.Reading.{nextRefusalOf, countMark, stepBy, readOn, marksOf}
 use Rattle.credit.specs.Years.{yearCredit, yearCredits, monthValue}
 use Rattle.credit.specs.Runs.{runsFrom, runFrom, runsIn}

@@ -6,4 +6,3 @@ pub mod Lawful
 pub mod Steps
 pub mod Refusals
 pub mod Term
-pub mod StatusOf

@@ -15,10 +15,10 @@ use Rattle.rounding.specs.Nearest.{nearest, combine}
 use Rattle.rounding.proofs.HalfUp.{nearest-within-half}
 use Rattle.rounding.proofs.Laws.{combine-upper}
 use Rattle.election.specs.declared.Terms.{Terms}
-use Rattle.marks.specs.Status.{statusOf, statusFrom}
+use Rattle.status.specs.Status.{statusOf, statusFrom}
 use Rattle.marks.specs.Reading.{marksOf}
 use Rattle.marks.proofs.Term.{marks-take}
-use Rattle.marks.proofs.StatusOf.{status-lawful, monthly-status}
+use Rattle.status.proofs.StatusOf.{status-lawful, monthly-status}
 use Rattle.credit.specs.Credit.{creditOver, creditIn}
 use Rattle.credit.specs.Earned.{nothingYet, creditAt, afterMarks}
 use Rattle.credit.proofs.Bounds.{credit-most}

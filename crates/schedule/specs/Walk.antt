@@ -9,7 +9,7 @@ use Rattle.common.specs.Choice.{pick}
 use Rattle.rounding.specs.Nearest.{nearest, combine}
 use Rattle.rates.specs.Rates.{rowOf}
 use Rattle.election.specs.declared.Terms.{Terms}
-use Rattle.marks.specs.Status.{statusFrom}
+use Rattle.status.specs.Status.{statusFrom}
 use Rattle.marks.specs.Reading.{oneMore, stepBy, marksOf}
 use Rattle.credit.specs.Years.{unit, yearCredits}
 use Rattle.credit.specs.Earned.{nothingYet, creditAt, afterMark, afterMarks}

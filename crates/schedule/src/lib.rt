@@ -48,7 +48,7 @@ fn held(t: Terms, w: Walk, lower: [u32; 21], upper: [u32; 21]) -> PensionPence
     ensures { λ r. ⌜ r ≡ pension (heldOf t w lower upper) ⌝ }
 {
     let reading = w.reading;
-    if marks::status(t.term, reading) == 5 {
+    if status::status(t.term, reading) == 5 {
         return PensionPence::none();
     }
     let only = w.lower;

@@ -17,9 +17,9 @@ use Rattle.election.specs.Rules.{refusalOf}
 use Rattle.election.specs.Price.{contributionOf}
 use Rattle.election.proofs.Laws.{accepted-facts, refusal-most, contribution-most}
 use Rattle.marks.specs.Counts.{paidMonths}
-use Rattle.marks.specs.Status.{statusOf}
+use Rattle.status.specs.Status.{statusOf}
 use Rattle.marks.specs.Reading.{readingOf, marksOf}
-use Rattle.marks.proofs.StatusOf.{not-lump, status-most, refunded-early}
+use Rattle.status.proofs.StatusOf.{not-lump, status-most, refunded-early}
 use Rattle.marks.proofs.Term.{too-many, not-too-many, marks-counts, marks-within}
 use Rattle.marks.proofs.Refusals.{lawful-reading, unrefused-lawful, refused-first}
 use Rattle.settlement.specs.Credit.{creditOf}

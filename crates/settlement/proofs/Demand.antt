@@ -14,8 +14,8 @@ use Rattle.rounding.specs.Nearest.{nearest}
 use Rattle.rounding.proofs.HalfUp.{nearest-within-half, nearest-monotone}
 use Rattle.election.specs.declared.Terms.{Terms}
 use Rattle.marks.specs.Lawful.{Lawful, LawfulFor}
-use Rattle.marks.specs.Status.{statusOf}
-use Rattle.marks.proofs.StatusOf.{monthly-status}
+use Rattle.status.specs.Status.{statusOf}
+use Rattle.status.proofs.StatusOf.{monthly-status}
 use Rattle.credit.specs.Runs.{paid, startsAfter, runCount}
 use Rattle.distance.proofs.Distance.{distance}
 use Rattle.distance.proofs.Amount.{credit-most, full-term}

@@ -5,7 +5,7 @@ use mathlib.Core.Path.{_≡_, sym, ap, _∙_}
 use Prim.Native.Nat.{ℕ, _+_, _<_}
 use Rattle.election.specs.declared.Terms.{Terms}
 use Rattle.election.proofs.Rates.{monthly-rates, monthly-upper-rates}
-use Rattle.marks.specs.Status.{statusOf}
+use Rattle.status.specs.Status.{statusOf}
 use Rattle.settlement.specs.declared.Examined.{Examined}
 use Rattle.settlement.specs.Settle.{settleRefusal}
 use Rattle.settlement.specs.Examine.{examinedOf}

@@ -9,7 +9,7 @@ use Rattle.election.specs.declared.Terms.{Terms}
 use Rattle.election.specs.Rate.{noRates, ratesAt, upperRatesAt}
 use Rattle.election.specs.Price.{contributionOf}
 use Rattle.marks.specs.Counts.{paidMonths}
-use Rattle.marks.specs.Status.{statusOf}
+use Rattle.status.specs.Status.{statusOf}
 use Rattle.settlement.specs.declared.Examined.{Examined}
 use Rattle.settlement.specs.Settle.{settleRefusal, settlePlace}
 

@@ -8,7 +8,7 @@ use Rattle.election.specs.declared.Terms.{Terms}
 use Rattle.election.specs.Rules.{refusalOf}
 use Rattle.election.specs.Price.{contributionOf}
 use Rattle.marks.specs.Counts.{paidMonths}
-use Rattle.marks.specs.Status.{statusOf}
+use Rattle.status.specs.Status.{statusOf}
 use Rattle.marks.specs.Reading.{marksOf}
 use Rattle.settlement.specs.declared.Settlement.{Settlement}
 use Rattle.settlement.specs.declared.Settlement.the-variants.{Refused, Settled}

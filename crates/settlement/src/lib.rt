@@ -68,7 +68,7 @@ pub fn examine(t: Terms, marks: &[u8]) -> Examined
     let contribution = priced.contribution;
     let lower = priced.lower;
     let upper = priced.upper;
-    let status = marks::status(t.term, read);
+    let status = status::status(t.term, read);
     Examined {
         refusal: 0,
         place: 0,

@@ -10,11 +10,11 @@ use Rattle.election.specs.Rate.{ratesAt, upperRatesAt}
 use Rattle.election.specs.Rules.{refusalOf}
 use Rattle.election.specs.declared.Priced.{Priced}
 use Rattle.election.specs.declared.Terms.{Terms}
-use Rattle.marks.proofs.StatusOf.{status-lawful}
+use Rattle.status.proofs.StatusOf.{status-lawful}
 use Rattle.marks.proofs.Term.{marks-counts, marks-lawful}
 use Rattle.marks.specs.Counts.{paidMonths}
 use Rattle.marks.specs.Reading.{marksOf}
-use Rattle.marks.specs.Status.{statusOf, statusFrom}
+use Rattle.status.specs.Status.{statusOf, statusFrom}
 use Rattle.marks.specs.declared.Reading.{Reading}
 use Rattle.money.specs.Money.{pension, contribution}
 use Rattle.money.specs.declared.ContributionPence.{ContributionPence}

@@ -11,7 +11,7 @@ use Rattle.common.specs.Choice.{pick}
 use Rattle.election.proofs.Laws.{contribution-most}
 use Rattle.election.specs.declared.Terms.{Terms}
 use Rattle.marks.proofs.Counts.{months-most}
-use Rattle.marks.proofs.StatusOf.{not-lump}
+use Rattle.status.proofs.StatusOf.{not-lump}
 use Rattle.money.specs.Money.{pension, contribution}
 use Rattle.money.specs.declared.ContributionPence.{ContributionPence}
 use Rattle.money.specs.declared.PensionPence.{PensionPence}

@@ -1,10 +1,10 @@
--- `marks::status` meets its contract: each return is one case of the definition.
+-- `status::status` meets its contract: each return is one case of the definition.
 -- Assumes nothing.
 use borrow.Author.Needs.{needs}
 use Rattle.common.proofs.Tests.{tests}
-use Rattle.marks.specs.Status.{statusFrom}
-use Rattle.marks.proofs.status.Statement.{statement}
-use Rattle.marks.proofs.status.Tie as tie
+use Rattle.status.specs.Status.{statusFrom}
+use Rattle.status.proofs.status.Statement.{statement}
+use Rattle.status.proofs.status.Tie as tie
 
 mul-months : tie.Need-mul-months
 mul-months c = search needs

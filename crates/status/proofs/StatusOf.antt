@@ -9,13 +9,13 @@ use borrow.Author.Tests.{lt-ltb, le-ltb, le-leb, leb-true, leb-false, eq-eqb, ne
 use lib.Dec.{ltb, leb, eqb, leb·suc-suc}
 use lib.ListN.{length}
 use Rattle.common.specs.Choice.{pick}
 use Rattle.marks.specs.Counts.{lastOr, allPaid, paidThrough, finalGap}
 use Rattle.marks.specs.Lawful.{LawfulFor}
-use Rattle.marks.specs.Status.{stoppedOf, statusOf, statusFrom}
+use Rattle.status.specs.Status.{stoppedOf, statusOf, statusFrom}
 use Rattle.marks.specs.Reading.{marksOf}
 use Rattle.common.proofs.Tests.{by-test}
 use Rattle.marks.proofs.Counts.{all-paid}
 use Rattle.marks.proofs.Term.{marks-counts}
 
 -- one to eleven missed months at the end, as the code tests for them and as the rule is written
 open-gap : (gap s : ℕ) → pick (eqb gap 0) s (pick (ltb gap 12) 2 s) ≡ pick (leb 1 gap && leb gap 11) 2 s
