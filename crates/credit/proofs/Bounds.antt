@@ -6,11 +6,11 @@ use Prim.Native.Nat.{ℕ, suc, _+_, _*_, _≤_}
 use native.Mathlib.Omega.{arith}
 use lib.ListN.{length, getD}
 use Rattle.rounding.specs.Rounding.{WithinHalf}
-use Rattle.credit.specs.Years.{monthValue}
+use Rattle.years.specs.Years.{monthValue}
 use Rattle.credit.specs.Runs.{paid, runsFrom, runFrom, runsIn}
 use Rattle.credit.specs.Credit.{earned, creditOver}
 use Rattle.credit.proofs.Runs.{length-paid}
-use Rattle.credit.proofs.Years.{month-most}
+use Rattle.years.proofs.Years.{month-most}
 
 module _ (value : ℕ → ℕ) (u : ℕ) (most : (month : ℕ) → value month ≤ u) where
   mutual

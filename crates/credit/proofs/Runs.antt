@@ -12,7 +12,7 @@ use lib.Seq.{take-suc}
 use Rattle.common.specs.Choice.{pick}
 use Rattle.money.specs.Money.{pension}
 use Rattle.credit.specs.declared.Earned.{Earned}
-use Rattle.credit.specs.Years.{monthValue}
+use Rattle.years.specs.Years.{monthValue}
 use Rattle.credit.specs.Runs.{paid, runsFrom, runFrom, runsIn}
 use Rattle.credit.specs.Credit.{earned, creditOver}
 use Rattle.credit.specs.Earned.{nothingYet, creditAt, afterMark, afterMarks}

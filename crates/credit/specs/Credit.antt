@@ -2,7 +2,7 @@
 -- Assumes nothing.
 use mathlib.Core.List.{List, [], _∷_}
 use Prim.Native.Nat.{ℕ, _+_, _-_}
-use Rattle.credit.specs.Years.{Purchase, yearCredits, monthValue}
+use Rattle.years.specs.Years.{Purchase, yearCredits, monthValue}
 use Rattle.credit.specs.Runs.{Run, runsIn}
 
 -- each run adds what its value has grown by from its start to its end

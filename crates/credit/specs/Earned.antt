@@ -6,7 +6,7 @@ use lib.Dec.{eqb}
 use Rattle.common.specs.Choice.{pick}
 use Rattle.money.specs.Money.{pension}
 use Rattle.credit.specs.declared.Earned.{Earned}
-use Rattle.credit.specs.Years.{monthValue}
+use Rattle.years.specs.Years.{monthValue}
 
 -- before the first mark
 abbrev pub nothingYet : Earned

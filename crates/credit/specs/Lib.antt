@@ -1,5 +1,3 @@
-pub mod Years
-pub mod Priced
 pub mod Runs
 pub mod Credit
 pub mod Earned

@@ -3,24 +3,11 @@
 use mathlib.Core.List.{List}
 use mathlib.Core.Path.{_≡_}
 use Prim.Native.Nat.{ℕ, _+_, _*_, _≤_, _<_, _^_}
-use lib.ListN.{getD}
 use Rattle.rounding.specs.Nearest.{nearest}
 use Rattle.money.specs.declared.PensionPence.{PensionPence}
 use Rattle.money.specs.Money.{pension}
 use Rattle.credit.specs.declared.Earned.{Earned}
-use Rattle.credit.specs.Years.{Purchase, unit, yearCredits, monthValue}
 use Rattle.credit.specs.Earned.{creditAt, afterMark}
-
--- of `year_credits`
-pub record YearCredits (p : Purchase) (r : List ℕ) : Type 0 where
-  pub is : r ≡ yearCredits nearest p
-  -- no year is worth more than the amount
-  pub most : (n : ℕ) → getD r n 0 ≤ p .units * unit
-
--- of `month_value`
-pub record MonthValue (years : List ℕ) (month : ℕ) (r : PensionPence) : Type 0 where
-  pub is : r ≡ pension (monthValue nearest years month)
-  pub fits : r .0 < 2 ^ 32
 
 -- what a state has to keep to for its sum to fit: few enough marks, each of which earned less than 2 ^ 32 pence
 pub record EarnedWithin (e : Earned) : Type 0 where

@@ -8,11 +8,11 @@ use native.Mathlib.Omega.{arith}
 use lib.ListN.{length, replicate}
 use Rattle.rounding.specs.Rounding.{WithinHalf, Monotone}
 use Rattle.rounding.proofs.Laws.{round-whole, combined-most, combined-least}
-use Rattle.credit.specs.Years.{Purchase, ownContribution, unit, yearCredits, monthValue}
-use Rattle.credit.specs.Priced.{Falling}
+use Rattle.years.specs.Years.{Purchase, ownContribution, unit, yearCredits, monthValue}
+use Rattle.years.specs.SoundRates.{Falling}
 use Rattle.credit.specs.Runs.{_until_, paid, runsFrom, runFrom, runsIn}
 use Rattle.credit.specs.Credit.{earned, creditOver, creditIn}
-use Rattle.credit.proofs.Years.{year-none, year-within, years-most, month-most}
+use Rattle.years.proofs.Years.{year-none, year-within, years-most, month-most}
 use Rattle.distance.specs.Distance.{Contract, creditBy, Sound}
 use Rattle.distance.proofs.Months.{month-year, month-rises}
 use Rattle.distance.proofs.Runs.{earned-most}

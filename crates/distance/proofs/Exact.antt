@@ -7,9 +7,9 @@ use Prim.Native.Nat.{ℕ, zero, suc, _+_, _*_, _-_, _/_, _≤_, _<_}
 use native.Mathlib.Nat.{mul-le-mul-left, le-of-mul-le-mul-right, div-mul-cancel}
 use native.Mathlib.Omega.{arith}
 use lib.ListN.{length}
-use Rattle.credit.specs.Years.{Purchase, ownContribution, unit, yearCredit}
-use Rattle.credit.specs.Priced.{Falling}
-use Rattle.credit.proofs.Years.{year-none, year-within}
+use Rattle.years.specs.Years.{Purchase, ownContribution, unit, yearCredit}
+use Rattle.years.specs.SoundRates.{Falling}
+use Rattle.years.proofs.Years.{year-none, year-within}
 use Rattle.distance.specs.Exact.{exactYear, exactMonth, exactFrom}
 use Rattle.distance.proofs.Denominator.{IsOver, none-is, plus-is, minus-is, divided-is, product, product-positive, divides-product}
 use Rattle.distance.proofs.Line.{line, line-step}

@@ -6,9 +6,9 @@ use native.Mathlib.Nat.{mul-le-mul-right}
 use native.Mathlib.Omega.{arith}
 use Rattle.rounding.specs.Rounding.{WithinHalf, Monotone}
 use Rattle.rounding.proofs.Laws.{blended-none}
-use Rattle.credit.specs.Years.{Purchase, yearCredit, yearCredits, monthValue}
-use Rattle.credit.specs.Priced.{Falling}
-use Rattle.credit.proofs.Years.{row-year, year-rises}
+use Rattle.years.specs.Years.{Purchase, yearCredit, yearCredits, monthValue}
+use Rattle.years.specs.SoundRates.{Falling}
+use Rattle.years.proofs.Years.{row-year, year-rises}
 use Rattle.distance.proofs.Line.{line, line-rises}
 
 module _ (round : ℕ → ℕ → ℕ) (p : Purchase) (short : p .term ≤ 20) where

@@ -8,8 +8,8 @@ use Prim.Native.Nat.{ℕ, suc, _+_, _*_, _≤_, _<_}
 use native.Mathlib.Omega.{arith}
 use lib.ListN.{length}
 use Rattle.rounding.specs.Rounding.{Monotone}
-use Rattle.credit.specs.Years.{Purchase, yearCredits, monthValue}
-use Rattle.credit.specs.Priced.{Falling}
+use Rattle.years.specs.Years.{Purchase, yearCredits, monthValue}
+use Rattle.years.specs.SoundRates.{Falling}
 use Rattle.credit.specs.Runs.{Run, paid, runsFrom, runFrom, runsIn, startsAfter, runCount}
 use Rattle.credit.specs.Credit.{earned}
 use Rattle.credit.proofs.Runs.{length-paid}

@@ -9,11 +9,11 @@ use native.Mathlib.Nat.{mul-le-mul-left, le-of-mul-le-mul-right}
 use native.Mathlib.Omega.{arith}
 use lib.ListN.{length}
 use Rattle.rounding.specs.Rounding.{WithinHalf}
-use Rattle.credit.specs.Years.{Purchase, ownContribution, unit, yearCredit, yearCredits, monthValue}
-use Rattle.credit.specs.Priced.{Falling}
+use Rattle.years.specs.Years.{Purchase, ownContribution, unit, yearCredit, yearCredits, monthValue}
+use Rattle.years.specs.SoundRates.{Falling}
 use Rattle.credit.specs.Runs.{paid, runsIn, startsAfter, runCount}
 use Rattle.credit.specs.Credit.{creditOver, creditIn}
-use Rattle.credit.proofs.Years.{year-none, year-within, year-or-none}
+use Rattle.years.proofs.Years.{year-none, year-within, year-or-none}
 use Rattle.credit.proofs.Runs.{length-paid}
 use Rattle.distance.specs.Exact.{exactCredit}
 use Rattle.distance.specs.Distance.{Within}

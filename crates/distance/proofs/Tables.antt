@@ -3,8 +3,8 @@
 use mathlib.Core.Path.{_≡_, refl}
 use Prim.Native.Nat.{_≤_, _<_}
 use native.Mathlib.Omega.{arith}
-use Rattle.credit.specs.Years.{Purchase}
-use Rattle.credit.specs.Priced.{Falling}
+use Rattle.years.specs.Years.{Purchase}
+use Rattle.years.specs.SoundRates.{Falling}
 use Rattle.distance.specs.Distance.{Contract, Sound}
 
 pub tables : (c : Contract) → Sound c → (Q : Purchase → Type 0)

@@ -11,7 +11,7 @@ use Rattle.election.specs.Price.{contributionAt, contributionIn, contributionOf
 use Rattle.marks.specs.Counts.{lastOr, allPaid, paidMonths, paidThrough, finalGap}
 use Rattle.status.specs.Status.{stoppedOf, statusOf}
 use Rattle.marks.specs.Reading.{nextRefusalOf, countMark, stepBy, readOn, marksOf}
-use Rattle.credit.specs.Years.{yearCredit, yearCredits, monthValue}
+use Rattle.years.specs.Years.{yearCredit, yearCredits, monthValue}
 use Rattle.credit.specs.Runs.{runsFrom, runFrom, runsIn}
 use Rattle.credit.specs.Credit.{earned, creditOver, creditIn}
 use Rattle.settlement.specs.Credit.{creditOf}

@@ -7,7 +7,7 @@ use Rattle.rounding.specs.Nearest.{nearest, blend}
 use Rattle.election.specs.declared.Terms.{Terms}
 use Rattle.election.specs.Rules.{refusalOf}
 use Rattle.election.specs.Price.{contributionOf}
-use Rattle.credit.specs.Years.{yearCredits, monthValue}
+use Rattle.years.specs.Years.{yearCredits, monthValue}
 use Rattle.settlement.specs.Credit.{purchaseIn}
 use Rattle.settlement.specs.Settle.{settleOf}
 

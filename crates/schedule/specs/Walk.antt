@@ -11,7 +11,7 @@ use Rattle.rates.specs.Rates.{rowOf}
 use Rattle.election.specs.declared.Terms.{Terms}
 use Rattle.status.specs.Status.{statusFrom}
 use Rattle.marks.specs.Reading.{oneMore, stepBy, marksOf}
-use Rattle.credit.specs.Years.{unit, yearCredits}
+use Rattle.years.specs.Years.{unit, yearCredits}
 use Rattle.credit.specs.Earned.{nothingYet, creditAt, afterMark, afterMarks}
 use Rattle.credit.specs.Promises.{EarnedWithin}
 use Rattle.settlement.specs.Credit.{purchaseIn}

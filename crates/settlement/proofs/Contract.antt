@@ -9,11 +9,11 @@ use Rattle.rates.specs.Rates.{rateOf, rowOf}
 use Rattle.election.specs.declared.Terms.{Terms}
 use Rattle.election.specs.Told.{Accepted}
 use Rattle.election.proofs.Rates.{monthly-rate}
-use Rattle.credit.specs.Years.{unit, yearCredits}
-use Rattle.credit.specs.Priced.{purchase, Priced}
+use Rattle.years.specs.Years.{unit, yearCredits}
+use Rattle.years.specs.SoundRates.{purchase, SoundRates}
 use Rattle.credit.specs.Credit.{creditIn}
-use Rattle.credit.specs.Promises.{YearCredits}
-use Rattle.credit.proofs.Priced.{purchase-row, falling-row, priced-row}
+use Rattle.years.specs.Promises.{YearCredits}
+use Rattle.years.proofs.SoundRates.{purchase-row, falling-row, sound-row}
 use Rattle.distance.specs.Distance.{Sound}
 use Rattle.settlement.specs.Credit.{purchaseIn, contractOf, creditOf}
 
@@ -39,12 +39,12 @@ module _ (t : Terms) (a : Accepted t 0) (monthly : 0 < t .term) where
   units-fit = omega (arith, a .under-cap)
 
   -- the rows of the needed tables have a price
-  pub lower-priced : {row : List ℕ} → row ≡ rowOf (t .option) (t .years) (t .age) → Priced (purchase row (t .amount / 250) (t .term))
-  lower-priced e = rw e (priced-row (t .option) (t .years) (t .age) (t .amount / 250) (t .term) lower-printed units-fit)
+  pub lower-priced : {row : List ℕ} → row ≡ rowOf (t .option) (t .years) (t .age) → SoundRates (purchase row (t .amount / 250) (t .term))
+  lower-priced e = rw e (sound-row (t .option) (t .years) (t .age) (t .amount / 250) (t .term) lower-printed units-fit)
 
   pub upper-priced : (t .months ≡ 0 → ⊥) → {row : List ℕ} → row ≡ rowOf (t .option) (t .years + 1) (t .age)
-      → Priced (purchase row (t .amount / 250) (t .term))
-  upper-priced odd e = rw e (priced-row (t .option) (t .years + 1) (t .age) (t .amount / 250) (t .term) (upper-printed odd) units-fit)
+      → SoundRates (purchase row (t .amount / 250) (t .term))
+  upper-priced odd e = rw e (sound-row (t .option) (t .years + 1) (t .age) (t .amount / 250) (t .term) (upper-printed odd) units-fit)
 
 -- the whole-year credits that the code makes of a table's row are the table's
 pub years-of : (t : Terms) (p : ℕ) (row : List ℕ) {years : List ℕ} → row ≡ rowOf (t .option) p (t .age)

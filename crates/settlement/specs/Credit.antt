@@ -5,7 +5,7 @@ use Prim.Native.Nat.{ℕ, _+_, _/_}
 use Rattle.rounding.specs.Nearest.{nearest}
 use Rattle.rates.specs.Rates.{rateOf}
 use Rattle.election.specs.declared.Terms.{Terms}
-use Rattle.credit.specs.Years.{Purchase}
+use Rattle.years.specs.Years.{Purchase}
 use Rattle.distance.specs.Fraction.{Fraction}
 use Rattle.distance.specs.Distance.{Contract, creditBy, exactly}
 

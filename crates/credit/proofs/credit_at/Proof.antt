@@ -9,7 +9,7 @@ use Rattle.rounding.specs.Nearest.{nearest}
 use Rattle.money.specs.declared.PensionPence.{PensionPence}
 use Rattle.money.specs.Money.{pension}
 use Rattle.credit.specs.declared.Earned.{Earned}
-use Rattle.credit.specs.Years.{monthValue}
+use Rattle.years.specs.Years.{monthValue}
 use Rattle.credit.specs.Earned.{creditAt}
 use Rattle.credit.proofs.credit_at.Statement.{statement}
 use Rattle.credit.proofs.credit_at.Tie as tie

@@ -9,9 +9,9 @@ use lib.ListN.{length, getD}
 use borrow.Author.Needs.{needs}
 use Rattle.credit.proofs.Bounds.{credit-most}
 use Rattle.credit.specs.Credit.{creditOver, creditIn}
-use Rattle.credit.specs.Priced.{purchase}
-use Rattle.credit.specs.Promises.{YearCredits}
-use Rattle.credit.specs.Years.{unit}
+use Rattle.years.specs.SoundRates.{purchase}
+use Rattle.years.specs.Promises.{YearCredits}
+use Rattle.years.specs.Years.{unit}
 use Rattle.election.specs.Told.{Accepted}
 use Rattle.election.specs.declared.Terms.{Terms}
 use Rattle.money.specs.Money.{pension}

@@ -1,4 +1,4 @@
--- `credit::year_at` meets its contract: a row has no more than twenty-one years.
+-- `years::year_at` meets its contract: a row has no more than twenty-one years.
 -- Assumes nothing.
 use mathlib.Core.Path.{sym}
 use native.Mathlib.Omega.{arith}
@@ -6,8 +6,8 @@ use mir.Syntax.{w32}
 use borrow.Author.Needs.{needs}
 use borrow.Kind.Array.{eInt, good-length}
 use lib.ListN.{List·getD-eq-default}
-use Rattle.credit.proofs.year_at.Statement.{statement}
-use Rattle.credit.proofs.year_at.Tie as tie
+use Rattle.years.proofs.year_at.Statement.{statement}
+use Rattle.years.proofs.year_at.Tie as tie
 
 mul-result : tie.Need-mul-result
 mul-result c = search needs

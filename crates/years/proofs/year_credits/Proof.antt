@@ -1,4 +1,4 @@
--- `credit::year_credits` meets its contract. The loop's invariant: below n the row has the years' credits, and from n on it has 0.
+-- `years::year_credits` meets its contract. The loop's invariant: below n the row has the years' credits, and from n on it has 0.
 -- Assumes nothing.
 use mathlib.Core.List.{List}
 use mathlib.Core.Path.{_≡_, sym, ap, _∙_}
@@ -17,11 +17,11 @@ use Rattle.rounding.proofs.HalfUp.{nearest-within-half}
 use Rattle.money.specs.declared.ContributionPence.{ContributionPence}
 use Rattle.money.specs.Money.{contribution}
 use Rattle.rates.specs.Rates.{rateIn}
-use Rattle.credit.specs.Years.{Purchase, unit, yearCredit, yearCredits}
-use Rattle.credit.specs.Priced.{purchase, Priced}
-use Rattle.credit.proofs.Years.{year-none, year-within, year-past, own-most, years-most}
-use Rattle.credit.proofs.year_credits.Statement.{statement}
-use Rattle.credit.proofs.year_credits.Tie as tie
+use Rattle.years.specs.Years.{Purchase, unit, yearCredit, yearCredits}
+use Rattle.years.specs.SoundRates.{purchase, SoundRates}
+use Rattle.years.proofs.Years.{year-none, year-within, year-past, own-most, years-most}
+use Rattle.years.proofs.year_credits.Statement.{statement}
+use Rattle.years.proofs.year_credits.Tie as tie
 
 first : (k : ℕ) → k < 1 → k ≡ 0
 first k h = omega arith
@@ -34,7 +34,7 @@ record Turn (rates : List ℕ) (units term n : ℕ) (own : ContributionPence) (r
   within : n ≤ term
 
 module _ (rates : List ℕ) (units term n : ℕ) (own : ContributionPence) (rate : ℕ) (t : Turn rates units term n own rate) where
-  year-fits : Priced (purchase rates units term) → (0 < rate) × (own .0 * unit ≤ (2 ^ 32 - 1) * rate)
+  year-fits : SoundRates (purchase rates units term) → (0 < rate) × (own .0 * unit ≤ (2 ^ 32 - 1) * rate)
   year-fits priced = rw (t .paid, t .rated) (
     priced .falling .positive n (t .low) (t .within),
     omega (

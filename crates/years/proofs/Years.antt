@@ -14,8 +14,8 @@ use Rattle.common.proofs.Tests.{by-test}
 use Rattle.common.proofs.Table.{length-tabulate, getD-tabulate}
 use Rattle.rounding.specs.Rounding.{WithinHalf, Monotone}
 use Rattle.rounding.proofs.Laws.{round-most, blended-most}
-use Rattle.credit.specs.Years.{Purchase, ownContribution, unit, yearCredit, yearCredits, monthValue}
-use Rattle.credit.specs.Priced.{Falling}
+use Rattle.years.specs.Years.{Purchase, ownContribution, unit, yearCredit, yearCredits, monthValue}
+use Rattle.years.specs.SoundRates.{Falling}
 
 module _ (round : ℕ → ℕ → ℕ) (p : Purchase) where
   pub year-none : yearCredit round p 0 ≡ 0

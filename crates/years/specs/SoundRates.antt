@@ -3,7 +3,7 @@
 use mathlib.Core.List.{List}
 use Prim.Native.Nat.{ℕ, suc, _*_, _≤_, _<_, _^_}
 use Rattle.rates.specs.Rates.{rateIn}
-use Rattle.credit.specs.Years.{Purchase, unit}
+use Rattle.years.specs.Years.{Purchase, unit}
 
 -- units times £250 over a term, at a row of rates for the terms 1 to 20
 abbrev pub purchase : List ℕ → ℕ → ℕ → Purchase
@@ -15,7 +15,7 @@ pub record Falling (p : Purchase) : Type 0 where
   pub falls : (n : ℕ) → 0 < n → n < p .term → p .rate (suc n) ≤ p .rate n
 
 -- The rates fall, the row of credits holds the term, and the amount fits 32 bits.
-pub record Priced (p : Purchase) : Type 0 where
+pub record SoundRates (p : Purchase) : Type 0 where
   pub falling : Falling p
   pub term-most : p .term ≤ 20
   pub amount-fits : p .units * unit < 2 ^ 32

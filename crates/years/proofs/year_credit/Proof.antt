@@ -1,4 +1,4 @@
--- `credit::year_credit` meets its contract: the rounded quotient is below 2 ^ 32, as the quotient is.
+-- `years::year_credit` meets its contract: the rounded quotient is below 2 ^ 32, as the quotient is.
 -- Assumes nothing.
 use Prim.Native.Nat.{_*_, _-_, _^_}
 use native.Mathlib.Omega.{arith}
@@ -6,9 +6,9 @@ use borrow.Author.Needs.{needs}
 use Rattle.rounding.specs.Nearest.{nearest}
 use Rattle.rounding.proofs.HalfUp.{nearest-within-half}
 use Rattle.rounding.proofs.Laws.{round-most}
-use Rattle.credit.specs.Years.{unit}
-use Rattle.credit.proofs.year_credit.Statement.{statement}
-use Rattle.credit.proofs.year_credit.Tie as tie
+use Rattle.years.specs.Years.{unit}
+use Rattle.years.proofs.year_credit.Statement.{statement}
+use Rattle.years.proofs.year_credit.Tie as tie
 
 mul-nearest : tie.Need-mul-nearest
 mul-nearest c = search needs

@@ -5,8 +5,8 @@ use Prim.Native.Nat.{ℕ, suc, _*_, _<_, _^_}
 use native.Mathlib.Omega.{arith}
 use Rattle.rates.specs.Rates.{rateOf, rowOf}
 use Rattle.rates.proofs.Laws.{printed, rate-falls, rate-in-row}
-use Rattle.credit.specs.Years.{Purchase, unit}
-use Rattle.credit.specs.Priced.{purchase, Falling, Priced}
+use Rattle.years.specs.Years.{Purchase, unit}
+use Rattle.years.specs.SoundRates.{purchase, Falling, SoundRates}
 
 -- a row of rates and the table's own say the same purchase
 pub purchase-row : (option pensionAge age units term : ℕ)
@@ -22,9 +22,9 @@ falling-row o p age units term shown =
       falls = λ n low within. rate-falls o p age n (suc n) low (omega arith);
     }
 
-pub priced-row : (option pensionAge age units term : ℕ) → 0 < rateOf option pensionAge age term → units * unit < 2 ^ 32
-    → Priced (purchase (rowOf option pensionAge age) units term)
-priced-row o p age units term shown fits =
+pub sound-row : (option pensionAge age units term : ℕ) → 0 < rateOf option pensionAge age term → units * unit < 2 ^ 32
+    → SoundRates (purchase (rowOf option pensionAge age) units term)
+sound-row o p age units term shown fits =
     rw (purchase-row o p age units term)
     (record {
       falling = falling-row o p age units term shown;

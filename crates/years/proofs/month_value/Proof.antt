@@ -1,4 +1,4 @@
--- `credit::month_value` meets its contract: the blend of the two whole years beside the month, and no greater than they.
+-- `years::month_value` meets its contract: the blend of the two whole years beside the month, and no greater than they.
 -- Assumes nothing.
 use mathlib.Core.List.{List}
 use mathlib.Core.Path.{_≡_, ap, _∙_}
@@ -11,9 +11,9 @@ use Rattle.rounding.specs.Nearest.{nearest, blend}
 use Rattle.rounding.proofs.Laws.{blend-most}
 use Rattle.money.specs.declared.PensionPence.{PensionPence}
 use Rattle.money.specs.Money.{pension}
-use Rattle.credit.specs.Years.{monthValue}
-use Rattle.credit.proofs.month_value.Statement.{statement}
-use Rattle.credit.proofs.month_value.Tie as tie
+use Rattle.years.specs.Years.{monthValue}
+use Rattle.years.proofs.month_value.Statement.{statement}
+use Rattle.years.proofs.month_value.Tie as tie
 
 by-years : (years : List ℕ) (month year next : ℕ) → year ≡ getD years (month / 12) 0 → next ≡ getD years (month / 12 + 1) 0
     → blend (month % 12) year next ≡ monthValue nearest years month

@@ -1,0 +1,58 @@
+// The whole-year credits of one table, and the value at a contract month.
+ghost use mathlib.Core.Path.{_≡_};
+ghost use Prim.Native.Nat.{_*_, _-_, _<_, _≤_, _^_};
+ghost use lib.ListN.{getD};
+ghost use Rattle.rounding.specs.Nearest.{nearest};
+ghost use Rattle.years.specs.Years.{unit};
+ghost use Rattle.years.specs.SoundRates.{purchase, SoundRates};
+ghost use Rattle.years.specs.Promises.{YearCredits, MonthValue};
+use money::ContributionPence;
+use money::PensionPence;
+
+// £250 a year, in pence.
+const UNIT: u64 = 25000;
+
+// What a monthly contribution buys in as many years as the rate is for.
+fn year_credit(own: ContributionPence, rate: u32) -> u32
+    requires { ⌜ (0 < rate) × (own .0 * unit ≤ (2 ^ 32 - 1) * rate) ⌝ }
+    ensures { λ r. ⌜ r ≡ nearest (own .0 * unit) rate ⌝ }
+{
+    rounding::nearest(own.0 * UNIT, rate as u64) as u32
+}
+
+// The twenty-one whole-year credits of one table's rates. Year 0 and the years past the term stay 0.
+pub fn year_credits(rates: [u32; 20], units: u32, term: u32) -> [u32; 21]
+    requires { ⌜ SoundRates (purchase rates units term) ⌝ }
+    ensures { λ r. ⌜ YearCredits (purchase rates units term) r ⌝ }
+{
+    let own = ContributionPence::of_units(units, rates::rate_in(rates, term));
+    let mut years = [0u32; 21];
+    let mut n: u32 = 1;
+    while n <= term {
+        let rate = rates::rate_in(rates, n);
+        let at = n as usize;
+        years[at] = year_credit(own, rate);
+        n += 1;
+    }
+    years
+}
+
+// The credit of a whole year; past the row there is none.
+fn year_at(years: [u32; 21], n: u32) -> u32
+    ensures { λ r. ⌜ r ≡ getD years n 0 ⌝ }
+{
+    if n < 21 {
+        return years[n as usize];
+    }
+    0
+}
+
+// The value at a contract month. Both ends of every run are valued here.
+pub fn month_value(years: [u32; 21], month: u32) -> PensionPence
+    ensures { λ r. ⌜ MonthValue years month r ⌝ }
+{
+    let n = month / 12;
+    let year = PensionPence(year_at(years, n) as u64);
+    let next = PensionPence(year_at(years, n + 1) as u64);
+    year.blend(next, month % 12)
+}
