@@ -8,7 +8,8 @@ use native.Mathlib.Omega.{arith}
 use lib.ListN.{length, replicate}
 use Rattle.rounding.specs.Rounding.{WithinHalf, Monotone}
 use Rattle.rounding.proofs.Laws.{round-whole, combined-most, combined-least}
-use Rattle.years.specs.Years.{Purchase, ownContribution, unit, yearCredits, monthValue}
+use Rattle.money.specs.Limits.{unit}
+use Rattle.years.specs.Years.{Purchase, ownContribution, yearCredits, monthValue}
 use Rattle.years.specs.SoundRates.{Falling}
 use Rattle.credit.specs.Runs.{_until_, paid, runsFrom, runFrom, runsIn}
 use Rattle.credit.specs.Credit.{earned, creditOver, creditIn}

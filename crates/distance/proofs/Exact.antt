@@ -7,7 +7,8 @@ use Prim.Native.Nat.{ℕ, zero, suc, _+_, _*_, _-_, _/_, _≤_, _<_}
 use native.Mathlib.Nat.{mul-le-mul-left, le-of-mul-le-mul-right, div-mul-cancel}
 use native.Mathlib.Omega.{arith}
 use lib.ListN.{length}
-use Rattle.years.specs.Years.{Purchase, ownContribution, unit, yearCredit}
+use Rattle.money.specs.Limits.{unit}
+use Rattle.years.specs.Years.{Purchase, ownContribution, yearCredit}
 use Rattle.years.specs.SoundRates.{Falling}
 use Rattle.years.proofs.Years.{year-none, year-within}
 use Rattle.distance.specs.Exact.{exactYear, exactMonth, exactFrom}

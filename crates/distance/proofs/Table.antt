@@ -9,7 +9,8 @@ use native.Mathlib.Nat.{mul-le-mul-left, le-of-mul-le-mul-right}
 use native.Mathlib.Omega.{arith}
 use lib.ListN.{length}
 use Rattle.rounding.specs.Rounding.{WithinHalf}
-use Rattle.years.specs.Years.{Purchase, ownContribution, unit, yearCredit, yearCredits, monthValue}
+use Rattle.money.specs.Limits.{unit}
+use Rattle.years.specs.Years.{Purchase, ownContribution, yearCredit, yearCredits, monthValue}
 use Rattle.years.specs.SoundRates.{Falling}
 use Rattle.credit.specs.Runs.{paid, runsIn, startsAfter, runCount}
 use Rattle.credit.specs.Credit.{creditOver, creditIn}

@@ -3,7 +3,8 @@
 use mathlib.Core.Bool.{Bool, true, false}
 use mathlib.Core.List.{List, [], _∷_}
 use Prim.Native.Nat.{ℕ, zero, suc, _-_, _/_}
-use Rattle.years.specs.Years.{Purchase, ownContribution, unit}
+use Rattle.money.specs.Limits.{unit}
+use Rattle.years.specs.Years.{Purchase, ownContribution}
 use Rattle.credit.specs.Runs.{paid}
 use Rattle.distance.specs.Fraction.{Fraction, _over_, _plus_, _minus_, _times_, _dividedBy_}
 

@@ -5,6 +5,7 @@ use lib.Dec.{eqb}
 use Rattle.common.specs.Choice.{pick}
 use Rattle.rounding.specs.Nearest.{combine}
 use Rattle.money.specs.Money.{contribution}
+use Rattle.money.specs.Limits.{stepPounds}
 use Rattle.election.specs.declared.Terms.{Terms}
 use Rattle.election.specs.declared.Priced.{Priced}
 use Rattle.election.specs.Rate.{tableRate, noRates, ratesAt, upperRatesAt}
@@ -12,7 +13,7 @@ use Rattle.election.specs.Rules.{refusalOf}
 
 -- a table's own contribution: (amount ÷ 250) × rate
 unfoldable pub contributionAt : Terms → ℕ → ℕ
-contributionAt t rate = t .amount / 250 * rate
+contributionAt t rate = t .amount / stepPounds * rate
 
 -- that of the table of a whole pension age
 unfoldable pub contributionIn : Terms → ℕ → ℕ

@@ -4,6 +4,7 @@ use mathlib.Core.Bool.{Bool, not, _&&_, _||_}
 use Prim.Native.Nat.{ℕ, _+_, _*_, _%_}
 use lib.Dec.{ltb, eqb}
 use Rattle.common.specs.Choice.{pick}
+use Rattle.money.specs.Limits.{stepPounds, capPence}
 use Rattle.election.specs.declared.Terms.{Terms}
 use Rattle.election.specs.Rate.{tableRate}
 
@@ -33,11 +34,11 @@ noUpperRate t = not (eqb (t .months) 0) && eqb (tableRate t (t .years + 1)) 0
 
 -- 7: less than £250, or not in steps of £250
 unfoldable pub wrongAmount : Terms → Bool
-wrongAmount t = ltb (t .amount) 250 || not (eqb (t .amount % 250) 0)
+wrongAmount t = ltb (t .amount) stepPounds || not (eqb (t .amount % stepPounds) 0)
 
 -- 8: with the existing pension more than £6,500 a year, in pence
 unfoldable pub aboveCap : Terms → ℕ → Bool
-aboveCap t existing = ltb 650000 (existing + t .amount * 100)
+aboveCap t existing = ltb capPence (existing + t .amount * 100)
 
 -- the number of the first rule that refuses, 0 where none does
 unfoldable pub refusalOf : Terms → ℕ → ℕ

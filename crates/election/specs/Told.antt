@@ -3,6 +3,7 @@
 use mathlib.Core.Bool.{false}
 use mathlib.Core.Path.{_≡_}
 use Prim.Native.Nat.{ℕ, _+_, _*_, _/_, _≤_, _<_}
+use Rattle.money.specs.Limits.{stepPounds, capPence}
 use Rattle.election.specs.declared.Terms.{Terms}
 use Rattle.election.specs.Rate.{tableRate}
 use Rattle.election.specs.Rules.{wrongOption, wrongPensionAge, wrongTerm, wrongPayer, refusalOf}
@@ -39,6 +40,6 @@ pub record Accepted (t : Terms) (existing : ℕ) : Type 0 where
   pub term-high : t .term ≤ 20
   pub lower-rate : 0 < tableRate t (t .years)
   pub upper-rate : (t .months ≡ 0 → ⊥) → 0 < tableRate t (t .years + 1)
-  pub amount-low : 250 ≤ t .amount
-  pub whole : t .amount / 250 * 250 ≡ t .amount
-  pub under-cap : existing + t .amount * 100 ≤ 650000
+  pub amount-low : stepPounds ≤ t .amount
+  pub whole : t .amount / stepPounds * stepPounds ≡ t .amount
+  pub under-cap : existing + t .amount * 100 ≤ capPence

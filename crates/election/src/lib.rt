@@ -5,6 +5,7 @@ ghost use Prim.Native.Nat.{_≤_, _<_, _^_};
 ghost use lib.Dec.{eqb};
 ghost use Rattle.rounding.specs.Nearest.{combine};
 ghost use Rattle.money.specs.Money.{contribution};
+ghost use Rattle.money.specs.Limits.{capPounds};
 ghost use Rattle.election.specs.Rate.{ratesAt, upperRatesAt, foundIn};
 ghost use Rattle.election.specs.Rules.{wrongOption, wrongPensionAge, wrongPayer, wrongAmount, aboveCap, refusalOf};
 ghost use Rattle.election.specs.Price.{contributionAt, refused, pricedOf};
@@ -175,7 +176,7 @@ fn rate_of(t: Terms, row: [u32; 20]) -> u32
 
 // What terms cost at rates that they have.
 fn cost(t: Terms, lower: u32, upper: u32) -> ContributionPence
-    requires { ⌜ (t .amount ≤ 6500) × (lower < 2 ^ 24) × (upper < 2 ^ 24) ⌝ }
+    requires { ⌜ (t .amount ≤ capPounds) × (lower < 2 ^ 24) × (upper < 2 ^ 24) ⌝ }
     ensures { λ r. ⌜ r ≡ contribution (combine (t .months) (contributionAt t lower) (contributionAt t upper)) ⌝ }
 {
     let units = t.amount / STEP;

@@ -25,10 +25,6 @@ pub reading-last : (ms : List ℕ) (m : ℕ) → readingOf (ms ++ (m ∷ [])) �
 unfolding readOn
 reading-last ms m = read-on-append startOf ms (m ∷ [])
 
-pub reading-take : (ms : List ℕ) (i : ℕ) → i < length ms
-    → readingOf (take (suc i) ms) ≡ stepOf (readingOf (take i ms)) (getD ms i 0)
-reading-take ms i h = rw (take-suc ms i 0) (reading-last (take i ms) (getD ms i 0))
-
 pub refused-within : (n i k : ℕ) → ReadingWithin (refusedOf n i) k
 refused-within n i k = omega arith
 

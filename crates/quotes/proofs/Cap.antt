@@ -5,10 +5,6 @@ use Prim.Native.Nat.{ℕ, _+_, _*_, _-_, _/_, _%_, _≤_}
 use native.Mathlib.Omega.{arith}
 use Rattle.quotes.specs.Cap.{capDecisionOf, GreatestUnderCap}
 
-pub cap-decision-most : (existing : ℕ) → capDecisionOf existing ≤ 6500
-unfolding capDecisionOf
-cap-decision-most existing = omega arith
-
 pub cap-decision-greatest : (existing : ℕ) → GreatestUnderCap existing (capDecisionOf existing)
 unfolding capDecisionOf
 cap-decision-greatest existing =

@@ -64,10 +64,6 @@ rate-rises o p a b term le last =
     step : (m : ℕ) → Printed o p m term → Printed o p (suc m) term → rateOf o p m term ≤ rateOf o p (suc m) term
     step m here r = rules o p m term (omega arith) (omega arith) .column (shown o p (suc m) term r)
 
-pub row-length : (o p age : ℕ) → length (rowOf o p age) ≡ 20
-unfolding rowOf
-row-length o p age = length-tabulate (rateOf o p age) 1 20
-
 -- a row has the rate of every term
 pub rate-in-row : (o p age term : ℕ) → rateIn (rowOf o p age) term ≡ rateOf o p age term
 unfolding rateIn rowOf

@@ -61,13 +61,6 @@ module _ (round : ℕ → ℕ → ℕ) (half : WithinHalf round) where
   combined-least m lo hi l h p q =
       by-test (eqb m 0) (λ e. rw e p) (λ e. rw e (blended-least m lo hi l h p (q (omega (arith, eqb-false m 0 e)))))
 
--- a blend of greater figures is at least as great
-pub blended-monotone : (round : ℕ → ℕ → ℕ) → Monotone round → (m a b c d : ℕ) → a ≤ c → b ≤ d
-    → blendBy round m a b ≤ blendBy round m c d
-blended-monotone round mono m a b c d p q =
-    mono .keeps ((12 - m) * a + m * b) 12 ((12 - m) * c + m * d) 12 (omega arith) (omega arith)
-    (omega (arith, mul-le-mul-left (12 - m) p, mul-le-mul-left m q))
-
 -- the upper bounds of a blend and of combined figures, to the nearest
 pub blend-most : (m lo hi u : ℕ) → m ≤ 12 → lo ≤ u → hi ≤ u → blend m lo hi ≤ u
 unfolding blend

@@ -11,7 +11,8 @@ use Rattle.rates.specs.Rates.{rowOf}
 use Rattle.election.specs.declared.Terms.{Terms}
 use Rattle.status.specs.Status.{statusFrom}
 use Rattle.marks.specs.Reading.{oneMore, stepBy, marksOf}
-use Rattle.years.specs.Years.{unit, yearCredits}
+use Rattle.money.specs.Limits.{unit, capPence}
+use Rattle.years.specs.Years.{yearCredits}
 use Rattle.credit.specs.Earned.{nothingYet, creditAt, afterMark, afterMarks}
 use Rattle.credit.specs.Promises.{EarnedWithin}
 use Rattle.settlement.specs.Credit.{purchaseIn}
@@ -67,10 +68,10 @@ pub record Tables (t : Terms) (marks lower upper : List ℕ) : Type 0 where
   pub monthly : 0 < t .term
   pub lower-is : lower ≡ yearCredits nearest (purchaseIn t (t .years))
   pub upper-is : (t .months ≡ 0 → ⊥) → upper ≡ yearCredits nearest (purchaseIn t (t .years + 1))
-  pub lower-most : (n : ℕ) → getD lower n 0 ≤ 650000
-  pub upper-most : (n : ℕ) → getD upper n 0 ≤ 650000
+  pub lower-most : (n : ℕ) → getD lower n 0 ≤ capPence
+  pub upper-most : (n : ℕ) → getD upper n 0 ≤ capPence
 
 -- of `upper_years`: the upper table's whole-year credits with odd months
 pub record UpperYears (t : Terms) (r : List ℕ) : Type 0 where
   pub is : (t .months ≡ 0 → ⊥) → r ≡ yearCredits nearest (purchaseIn t (t .years + 1))
-  pub most : (n : ℕ) → getD r n 0 ≤ 650000
+  pub most : (n : ℕ) → getD r n 0 ≤ capPence

@@ -2,6 +2,7 @@
 ghost use mathlib.Core.Path.{_≡_};
 ghost use Prim.Native.Nat.{ℕ, _≤_, _<_, _^_};
 ghost use lib.ListN.{length, getD};
+ghost use Rattle.money.specs.Limits.{capPence};
 ghost use Rattle.money.specs.Money.{pension};
 ghost use Rattle.settlement.specs.Told.{Monthly};
 ghost use Rattle.schedule.specs.Schedule.{filledOf, numbersOf, scheduleOf};
@@ -82,7 +83,7 @@ fn fill(t: Terms, lower: [u32; 21], upper: [u32; 21], marks: &[u8], out: &mut [u
 // The upper table's whole-year credits; at a whole pension age they are not looked at, and the only table's stand in for them.
 fn upper_years(t: Terms, lower: [u32; 20], upper: [u32; 20], only: [u32; 21]) -> [u32; 21]
     requires { ⌜ Monthly t lower upper ⌝ }
-    requires { ⌜ ((n : ℕ) → getD only n 0 ≤ 650000) ⌝ }
+    requires { ⌜ ((n : ℕ) → getD only n 0 ≤ capPence) ⌝ }
     ensures { λ r. ⌜ UpperYears t r ⌝ }
 {
     if t.months == 0 {

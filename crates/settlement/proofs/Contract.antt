@@ -9,7 +9,8 @@ use Rattle.rates.specs.Rates.{rateOf, rowOf}
 use Rattle.election.specs.declared.Terms.{Terms}
 use Rattle.election.specs.Told.{Accepted}
 use Rattle.election.proofs.Rates.{monthly-rate}
-use Rattle.years.specs.Years.{unit, yearCredits}
+use Rattle.money.specs.Limits.{unit}
+use Rattle.years.specs.Years.{yearCredits}
 use Rattle.years.specs.SoundRates.{purchase, SoundRates}
 use Rattle.credit.specs.Credit.{creditIn}
 use Rattle.years.specs.Promises.{YearCredits}

@@ -5,6 +5,7 @@ use Prim.Native.Nat.{ℕ, _+_, _/_}
 use Rattle.rounding.specs.Nearest.{nearest}
 use Rattle.rates.specs.Rates.{rateOf}
 use Rattle.election.specs.declared.Terms.{Terms}
+use Rattle.money.specs.Limits.{stepPounds}
 use Rattle.years.specs.Years.{Purchase}
 use Rattle.distance.specs.Fraction.{Fraction}
 use Rattle.distance.specs.Distance.{Contract, creditBy, exactly}
@@ -12,7 +13,7 @@ use Rattle.distance.specs.Distance.{Contract, creditBy, exactly}
 -- what the monthly table of a whole pension age knows of the election: its rate at each term for that age and option
 abbrev pub purchaseIn : Terms → ℕ → Purchase
 purchaseIn t pensionAge =
-    record { rate = rateOf (t .option) pensionAge (t .age); units = t .amount / 250; term = t .term }
+    record { rate = rateOf (t .option) pensionAge (t .age); units = t .amount / stepPounds; term = t .term }
 
 -- the odd months of the pension age, and its two neighbouring tables
 abbrev pub contractOf : Terms → Contract

@@ -3,6 +3,7 @@
 use mathlib.Core.List.{List}
 use mathlib.Core.Path.{_≡_}
 use Prim.Native.Nat.{ℕ, _+_, _≤_, _<_}
+use Rattle.money.specs.Limits.{capPence}
 use Rattle.rates.specs.Rates.{rowOf}
 use Rattle.election.specs.declared.Terms.{Terms}
 use Rattle.election.specs.Told.{Accepted}
@@ -21,5 +22,5 @@ pub record SettleBounds (n : SettleNumbers) : Type 0 where
   pub place-most : n .place ≤ 239
   pub contribution-most : n .contribution ≤ 11856000
   pub status-most : n .status ≤ 6
-  pub credit-most : n .credit ≤ 650000
+  pub credit-most : n .credit ≤ capPence
   pub refund-most : n .refund ≤ 130416000

@@ -5,7 +5,8 @@ use Prim.Native.Nat.{ℕ, suc, _*_, _<_, _^_}
 use native.Mathlib.Omega.{arith}
 use Rattle.rates.specs.Rates.{rateOf, rowOf}
 use Rattle.rates.proofs.Laws.{printed, rate-falls, rate-in-row}
-use Rattle.years.specs.Years.{Purchase, unit}
+use Rattle.money.specs.Limits.{unit}
+use Rattle.years.specs.Years.{Purchase}
 use Rattle.years.specs.SoundRates.{purchase, Falling, SoundRates}
 
 -- a row of rates and the table's own say the same purchase

@@ -7,7 +7,8 @@ use lib.ListN.{getD}
 use Rattle.rounding.specs.Nearest.{nearest}
 use Rattle.money.specs.declared.PensionPence.{PensionPence}
 use Rattle.money.specs.Money.{pension}
-use Rattle.years.specs.Years.{Purchase, unit, yearCredits, monthValue}
+use Rattle.money.specs.Limits.{unit}
+use Rattle.years.specs.Years.{Purchase, yearCredits, monthValue}
 
 -- of `year_credits`
 pub record YearCredits (p : Purchase) (r : List ℕ) : Type 0 where

@@ -3,7 +3,8 @@
 use mathlib.Core.List.{List}
 use Prim.Native.Nat.{ℕ, suc, _*_, _≤_, _<_, _^_}
 use Rattle.rates.specs.Rates.{rateIn}
-use Rattle.years.specs.Years.{Purchase, unit}
+use Rattle.money.specs.Limits.{unit}
+use Rattle.years.specs.Years.{Purchase}
 
 -- units times £250 over a term, at a row of rates for the terms 1 to 20
 abbrev pub purchase : List ℕ → ℕ → ℕ → Purchase

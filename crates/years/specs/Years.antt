@@ -8,6 +8,7 @@ use lib.ListN.{getD}
 use Rattle.common.specs.Choice.{pick}
 use Rattle.common.specs.Table.{tabulate}
 use Rattle.rounding.specs.Nearest.{blendBy}
+use Rattle.money.specs.Limits.{unit}
 
 -- What one table knows of a monthly contract: its rate in pence at each term, how many times £250 are bought, the term in years.
 pub record Purchase : Type 0 where
@@ -18,10 +19,6 @@ pub record Purchase : Type 0 where
 -- that table's own contribution
 abbrev pub ownContribution : Purchase → ℕ
 ownContribution p = p .units * p .rate (p .term)
-
--- £250 a year, in pence
-abbrev pub unit : ℕ
-unit = 25000
 
 -- What the contribution buys in n years, by the rate for n, rounded; nothing at the start, and nothing beyond the term.
 unfoldable pub yearCredit : (ℕ → ℕ → ℕ) → Purchase → ℕ → ℕ

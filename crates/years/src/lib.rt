@@ -3,7 +3,7 @@ ghost use mathlib.Core.Path.{_≡_};
 ghost use Prim.Native.Nat.{_*_, _-_, _<_, _≤_, _^_};
 ghost use lib.ListN.{getD};
 ghost use Rattle.rounding.specs.Nearest.{nearest};
-ghost use Rattle.years.specs.Years.{unit};
+ghost use Rattle.money.specs.Limits.{unit};
 ghost use Rattle.years.specs.SoundRates.{purchase, SoundRates};
 ghost use Rattle.years.specs.Promises.{YearCredits, MonthValue};
 use money::ContributionPence;

@@ -11,7 +11,7 @@ use Rattle.credit.proofs.Bounds.{credit-most}
 use Rattle.credit.specs.Credit.{creditOver, creditIn}
 use Rattle.years.specs.SoundRates.{purchase}
 use Rattle.years.specs.Promises.{YearCredits}
-use Rattle.years.specs.Years.{unit}
+use Rattle.money.specs.Limits.{unit}
 use Rattle.election.specs.Told.{Accepted}
 use Rattle.election.specs.declared.Terms.{Terms}
 use Rattle.money.specs.Money.{pension}

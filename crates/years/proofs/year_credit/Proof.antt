@@ -6,7 +6,7 @@ use borrow.Author.Needs.{needs}
 use Rattle.rounding.specs.Nearest.{nearest}
 use Rattle.rounding.proofs.HalfUp.{nearest-within-half}
 use Rattle.rounding.proofs.Laws.{round-most}
-use Rattle.years.specs.Years.{unit}
+use Rattle.money.specs.Limits.{unit}
 use Rattle.years.proofs.year_credit.Statement.{statement}
 use Rattle.years.proofs.year_credit.Tie as tie
 

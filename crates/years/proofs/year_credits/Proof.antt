@@ -17,7 +17,8 @@ use Rattle.rounding.proofs.HalfUp.{nearest-within-half}
 use Rattle.money.specs.declared.ContributionPence.{ContributionPence}
 use Rattle.money.specs.Money.{contribution}
 use Rattle.rates.specs.Rates.{rateIn}
-use Rattle.years.specs.Years.{Purchase, unit, yearCredit, yearCredits}
+use Rattle.money.specs.Limits.{unit}
+use Rattle.years.specs.Years.{Purchase, yearCredit, yearCredits}
 use Rattle.years.specs.SoundRates.{purchase, SoundRates}
 use Rattle.years.proofs.Years.{year-none, year-within, year-past, own-most, years-most}
 use Rattle.years.proofs.year_credits.Statement.{statement}
