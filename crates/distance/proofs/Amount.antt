@@ -14,7 +14,7 @@ use Rattle.years.specs.SoundRates.{Falling}
 use Rattle.credit.specs.Runs.{_until_, paid, runsFrom, runFrom, runsIn}
 use Rattle.credit.specs.Credit.{earned, creditOver, creditIn}
 use Rattle.years.proofs.Years.{year-none, year-within, years-most, month-most}
-use Rattle.distance.specs.Distance.{Contract, creditBy, Sound}
+use Rattle.distance.specs.Distance.{Purchases, creditBy, Sound}
 use Rattle.distance.proofs.Months.{month-year, month-rises}
 use Rattle.distance.proofs.Runs.{earned-most}
 use Rattle.distance.proofs.Tables.{tables}
@@ -41,7 +41,7 @@ module _ (round : ℕ → ℕ → ℕ) (half : WithinHalf round) where
           month-most round half (yearCredits round p) (p .units * unit) (years-most round half p short falling) (12 * p .term),
         )
 
-    pub credit-most : (c : Contract) → Sound c → (marks : List ℕ) → length marks ≤ 12 * c .lower .term
+    pub credit-most : (c : Purchases) → Sound c → (marks : List ℕ) → length marks ≤ 12 * c .lower .term
         → creditBy round c marks ≤ c .lower .units * unit
     credit-most c sound marks fits =
         let u = c .lower .units * unit in
@@ -65,7 +65,7 @@ module _ (round : ℕ → ℕ → ℕ) (half : WithinHalf round) where
         round-whole round half (p .units * unit) r (falling .positive (p .term) h (le-refl (p .term))),
       )
 
-  pub full-term : (c : Contract) → Sound c → 0 < c .lower .term
+  pub full-term : (c : Purchases) → Sound c → 0 < c .lower .term
       → creditBy round c (replicate (12 * c .lower .term) 1) ≡ c .lower .units * unit
   full-term c sound h =
       let u = c .lower .units * unit in

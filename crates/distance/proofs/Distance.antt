@@ -16,7 +16,7 @@ use Rattle.credit.specs.Runs.{paid, runCount}
 use Rattle.credit.specs.Credit.{creditIn}
 use Rattle.distance.specs.Fraction.{Fraction}
 use Rattle.distance.specs.Exact.{exactCredit, exactBlend}
-use Rattle.distance.specs.Distance.{Within, halfPence, Contract, creditBy, exactly, Sound}
+use Rattle.distance.specs.Distance.{Within, halfPence, Purchases, creditBy, exactly, Sound}
 use Rattle.distance.proofs.Near.{blend-near}
 use Rattle.distance.proofs.Table.{table-distance}
 use Rattle.distance.proofs.Tables.{tables}
@@ -35,7 +35,7 @@ blend-within round half m lo hi h x y l a b =
     (omega (arith, mul-le-mul-right (x .den) (b .above)), omega (arith, mul-le-mul-right (x .den) (b .below))) in
     record { positive = mul-pos (mul-pos (a .positive) (b .positive)) (omega arith); above = omega arith; below = omega arith }
 
-pub distance : (round : ℕ → ℕ → ℕ) → WithinHalf round → (c : Contract) → Sound c
+pub distance : (round : ℕ → ℕ → ℕ) → WithinHalf round → (c : Purchases) → Sound c
     → (marks : List ℕ) → length marks ≤ 12 * c .lower .term → (rest : List Bool) → paid marks ≡ true ∷ rest
     → Within (creditBy round c marks) (exactly c marks) (halfPence (c .odd) (runCount marks))
 distance round half c sound marks fits rest begins =

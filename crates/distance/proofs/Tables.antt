@@ -5,9 +5,9 @@ use Prim.Native.Nat.{_≤_, _<_}
 use native.Mathlib.Omega.{arith}
 use Rattle.years.specs.Years.{Purchase}
 use Rattle.years.specs.SoundRates.{Falling}
-use Rattle.distance.specs.Distance.{Contract, Sound}
+use Rattle.distance.specs.Distance.{Purchases, Sound}
 
-pub tables : (c : Contract) → Sound c → (Q : Purchase → Type 0)
+pub tables : (c : Purchases) → Sound c → (Q : Purchase → Type 0)
     → ((p : Purchase) → p .term ≡ c .lower .term → p .units ≡ c .lower .units → p .term ≤ 20 → Falling p → Q p)
     → Q (c .lower) × (0 < c .odd → Q (c .upper))
 tables c sound Q each = (

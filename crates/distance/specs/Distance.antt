@@ -22,24 +22,24 @@ pub record Within (c : ℕ) (x : Fraction) (h : ℕ) : Type 0 where
 abbrev pub halfPence : ℕ → ℕ → ℕ
 halfPence odd k = 2 * (2 * k - 1) + pick (eqb odd 0) 0 1
 
--- A monthly contract: the odd months of its pension age, the only or lower table, and the upper, which no odd months leave unused.
-pub record Contract : Type 0 where
+-- What a monthly contract buys: the odd months of its pension age, from the only or lower table, and from the upper, which no odd months leave unused.
+pub record Purchases : Type 0 where
   pub odd : ℕ
   pub lower : Purchase
   pub upper : Purchase
 
 -- The credit in whole pence: the only table's, or with odd months the rounded blend of both tables'.
-abbrev pub creditBy : (ℕ → ℕ → ℕ) → Contract → List ℕ → ℕ
+abbrev pub creditBy : (ℕ → ℕ → ℕ) → Purchases → List ℕ → ℕ
 creditBy round c marks = combineBy round (c .odd) (creditIn round (c .lower) marks) (creditIn round (c .upper) marks)
 
 -- The exact credit: the same with nothing rounded.
-abbrev pub exactly : Contract → List ℕ → Fraction
+abbrev pub exactly : Purchases → List ℕ → Fraction
 exactly c marks =
     pick (eqb (c .odd) 0) (exactCredit (c .lower) marks)
     (exactBlend (c .odd) (exactCredit (c .lower) marks) (exactCredit (c .upper) marks))
 
 -- What the theorems ask: odd months below 12, a term that the row of 21 holds, falling rates, the same term and units in both tables.
-pub record Sound (c : Contract) : Type 0 where
+pub record Sound (c : Purchases) : Type 0 where
   pub odd-most : c .odd < 12
   pub term-most : c .lower .term ≤ 20
   pub lower-falls : Falling (c .lower)

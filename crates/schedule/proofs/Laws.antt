@@ -26,7 +26,7 @@ use Rattle.credit.proofs.Runs.{one-mark-more, by-runs}
 use Rattle.settlement.specs.Credit.{purchaseIn, creditOf}
 use Rattle.settlement.specs.Settle.{SettleNumbers, settleRefusal, creditAtStatus}
 use Rattle.settlement.proofs.Laws.{lawful, few, refusal-take, settle-settled}
-use Rattle.settlement.proofs.Contract.{credit-combined}
+use Rattle.settlement.proofs.Purchases.{credit-combined}
 use Rattle.schedule.specs.declared.Walk.{Walk}
 use Rattle.schedule.specs.Schedule.{entryOf}
 use Rattle.schedule.specs.Walk.{walkOf, stepWalk, heldOf, Tables}

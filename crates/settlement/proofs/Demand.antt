@@ -19,11 +19,11 @@ use Rattle.status.proofs.StatusOf.{monthly-status}
 use Rattle.credit.specs.Runs.{paid, startsAfter, runCount}
 use Rattle.distance.proofs.Distance.{distance}
 use Rattle.distance.proofs.Amount.{credit-most, full-term}
-use Rattle.settlement.specs.Credit.{contractOf, creditOf, exactCreditOf}
+use Rattle.settlement.specs.Credit.{purchasesOf, creditOf, exactCreditOf}
 use Rattle.settlement.specs.Settle.{settleRefusal, creditAtStatus, settleOf}
 use Rattle.settlement.specs.Demand.{Demand3}
 use Rattle.settlement.proofs.Laws.{settle-settled, settle-refusal, accepted, lawful}
-use Rattle.settlement.proofs.Contract.{sound}
+use Rattle.settlement.proofs.Purchases.{sound}
 
 -- marks that are all 2 hold no run
 none-after : (ms : List ℕ) → ((ys zs : List ℕ) (m : ℕ) → ms ≡ ys ++ (m ∷ zs) → m ≡ 2) → startsAfter false (paid ms) ≡ 0
@@ -60,7 +60,7 @@ demand-3 t ms z years k other =
     let first = first-paid ms (law .lawful) k in
     rw (settle-settled t ms none)
     (rw (credit-worked t ms (omega arith) other)
-    (distance nearest nearest-within-half (contractOf t) (sound t (accepted t ms none) (omega arith)) ms (law .few) (first .0) (first .1)))
+    (distance nearest nearest-within-half (purchasesOf t) (sound t (accepted t ms none) (omega arith)) ms (law .few) (first .0) (first .1)))
 
 -- a monthly contract's runs never earn more than the amount
 pub worked-most : (t : Terms) (ms : List ℕ) → settleRefusal t ms ≡ 0 → 0 < t .term → creditOf t ms ≤ t .amount * 100
@@ -69,7 +69,7 @@ worked-most t ms none monthly =
     let a = accepted t ms none in
     omega (
       arith,
-      credit-most nearest nearest-within-half nearest-monotone (contractOf t) (sound t a monthly) ms (lawful t ms none .few),
+      credit-most nearest nearest-within-half nearest-monotone (purchasesOf t) (sound t a monthly) ms (lawful t ms none .few),
       a .whole,
     )
 
@@ -81,6 +81,6 @@ full-credit t ms none monthly =
     let a = accepted t ms none in
     omega (
       arith,
-      full-term nearest nearest-within-half (contractOf t) (sound t a monthly) monthly,
+      full-term nearest nearest-within-half (purchasesOf t) (sound t a monthly) monthly,
       a .whole,
     )

@@ -1,5 +1,5 @@
 pub mod Laws
 pub mod Examination
-pub mod Contract
+pub mod Purchases
 pub mod Demand
 pub mod Bounds

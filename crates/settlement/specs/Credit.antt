@@ -8,7 +8,7 @@ use Rattle.election.specs.declared.Terms.{Terms}
 use Rattle.money.specs.Limits.{stepPounds}
 use Rattle.years.specs.Years.{Purchase}
 use Rattle.distance.specs.Fraction.{Fraction}
-use Rattle.distance.specs.Distance.{Contract, creditBy, exactly}
+use Rattle.distance.specs.Distance.{Purchases, creditBy, exactly}
 
 -- what the monthly table of a whole pension age knows of the election: its rate at each term for that age and option
 abbrev pub purchaseIn : Terms → ℕ → Purchase
@@ -16,13 +16,13 @@ purchaseIn t pensionAge =
     record { rate = rateOf (t .option) pensionAge (t .age); units = t .amount / stepPounds; term = t .term }
 
 -- the odd months of the pension age, and its two neighbouring tables
-abbrev pub contractOf : Terms → Contract
-contractOf t = record { odd = t .months; lower = purchaseIn t (t .years); upper = purchaseIn t (t .years + 1) }
+abbrev pub purchasesOf : Terms → Purchases
+purchasesOf t = record { odd = t .months; lower = purchaseIn t (t .years); upper = purchaseIn t (t .years + 1) }
 
 -- the credit to the nearest penny, each table's worked out whole before two are combined
 unfoldable pub creditOf : Terms → List ℕ → ℕ
-creditOf t marks = creditBy nearest (contractOf t) marks
+creditOf t marks = creditBy nearest (purchasesOf t) marks
 
 -- the exact credit, a fraction of a penny
 unfoldable pub exactCreditOf : Terms → List ℕ → Fraction
-exactCreditOf t marks = exactly (contractOf t) marks
+exactCreditOf t marks = exactly (purchasesOf t) marks

@@ -11,7 +11,7 @@ use Rattle.common.specs.Table.{tabulate}
 use Rattle.election.specs.declared.Terms.{Terms}
 use Rattle.schedule.specs.Schedule.{ScheduleNumbers, filledOf, scheduleOf}
 use Rattle.schedule.specs.Walk.{Tables}
-use Rattle.settlement.proofs.Contract.{lower-priced, years-of}
+use Rattle.settlement.proofs.Purchases.{lower-priced, years-of}
 use Rattle.settlement.proofs.Examination.{examined-told, examined-none, examined-monthly}
 use Rattle.settlement.proofs.Laws.{lawful, accepted, examined-refused}
 use Rattle.settlement.specs.Examine.{examinedOf}

@@ -2,7 +2,7 @@
 -- Assumes nothing.
 use Prim.Native.Nat.{ℕ, _+_}
 use native.Mathlib.Omega.{arith}
-use Rattle.settlement.proofs.Contract.{upper-priced, years-of}
+use Rattle.settlement.proofs.Purchases.{upper-priced, years-of}
 use Rattle.schedule.proofs.upper_years.Statement.{statement}
 use Rattle.schedule.proofs.upper_years.Tie as tie
 

@@ -16,7 +16,7 @@ use Rattle.credit.specs.Credit.{creditIn}
 use Rattle.years.specs.Promises.{YearCredits}
 use Rattle.years.proofs.SoundRates.{purchase-row, falling-row, sound-row}
 use Rattle.distance.specs.Distance.{Sound}
-use Rattle.settlement.specs.Credit.{purchaseIn, contractOf, creditOf}
+use Rattle.settlement.specs.Credit.{purchaseIn, purchasesOf, creditOf}
 
 module _ (t : Terms) (a : Accepted t 0) (monthly : 0 < t .term) where
   lower-printed : 0 < rateOf (t .option) (t .years) (t .age) (t .term)
@@ -25,7 +25,7 @@ module _ (t : Terms) (a : Accepted t 0) (monthly : 0 < t .term) where
   upper-printed : (t .months ≡ 0 → ⊥) → 0 < rateOf (t .option) (t .years + 1) (t .age) (t .term)
   upper-printed odd = rw (monthly-rate t (t .years + 1) monthly) at (a .upper-rate odd)
 
-  pub sound : Sound (contractOf t)
+  pub sound : Sound (purchasesOf t)
   sound =
       record {
         odd-most = omega (arith, a .pension-age .months-high);
