@@ -34,6 +34,13 @@ pub struct Numbers {
     pub amount: u32,
 }
 
+/// In the order of the fields.
+impl From<[u32; 7]> for Numbers {
+    fn from([age, pension_age_years, pension_age_months, option, payer, term, amount]: [u32; 7]) -> Self {
+        Self { age, pension_age_years, pension_age_months, option, payer, term, amount }
+    }
+}
+
 mod linked {
     extern "C" {
         pub fn ap_quote(

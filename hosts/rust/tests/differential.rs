@@ -21,18 +21,6 @@ fn inputs() -> u64 {
     given.map_or(INPUTS, |number| number.parse().expect("AP_INPUTS is a number"))
 }
 
-fn numbers(terms: &Terms) -> Numbers {
-    Numbers {
-        age: terms.age,
-        pension_age_years: terms.pension_age_years,
-        pension_age_months: terms.pension_age_months,
-        option: terms.option,
-        payer: terms.payer,
-        term: terms.term,
-        amount: terms.amount,
-    }
-}
-
 /// Memory of which a piece is lent: what stands around it must stay.
 struct Lent {
     bytes: Vec<u8>,
@@ -125,7 +113,7 @@ fn compare_quote(random: &mut Random, tally: &mut Tally, terms: &Terms, existing
     if length >= raw::QUOTE_BYTES {
         expected[out.start..out.start + raw::QUOTE_BYTES].copy_from_slice(&answer.bytes());
     }
-    let given = raw::quote(&numbers(terms), existing, last_number, out.piece());
+    let given = raw::quote(&Numbers::from(terms.numbers()), existing, last_number, out.piece());
     tally.inputs += 1;
     tally.refusals[value as usize] += 1;
     tally.compare((terms, existing, last_number, length), (given, out.bytes), (value, expected));
@@ -142,7 +130,7 @@ fn compare_settle(random: &mut Random, tally: &mut Tally, terms: &Terms, marks: 
     if length >= raw::SETTLE_BYTES {
         expected[out.start..out.start + raw::SETTLE_BYTES].copy_from_slice(&answer.bytes());
     }
-    let given = raw::settle(&numbers(terms), lent_marks.piece(), out.piece());
+    let given = raw::settle(&Numbers::from(terms.numbers()), lent_marks.piece(), out.piece());
     tally.inputs += 1;
     tally.refusals[value as usize] += 1;
     tally.longest = tally.longest.max(marks.len());

@@ -97,20 +97,8 @@ fn contracts(kind: &Kind) -> Vec<Contract> {
     (0..CONTRACTS).map(make).collect()
 }
 
-fn numbers(terms: &Terms) -> Numbers {
-    Numbers {
-        age: terms.age,
-        pension_age_years: terms.pension_age_years,
-        pension_age_months: terms.pension_age_months,
-        option: terms.option,
-        payer: terms.payer,
-        term: terms.term,
-        amount: terms.amount,
-    }
-}
-
 fn part_call(call: Call, contract: &Contract, out: &mut [u8; 48]) {
-    let terms = numbers(&contract.terms);
+    let terms = Numbers::from(contract.terms.numbers());
     match call {
         Call::Quote => raw::quote(&terms, contract.existing, contract.last_number, &mut out[..24]),
         Call::Settle => raw::settle(&terms, &contract.marks, out),

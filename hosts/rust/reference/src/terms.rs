@@ -26,6 +26,12 @@ pub struct Terms {
 }
 
 impl Terms {
+    /// The numbers in the order of the fields.
+    pub fn numbers(&self) -> [u32; 7] {
+        let Terms { age, pension_age_years, pension_age_months, option, payer, term, amount } = *self;
+        [age, pension_age_years, pension_age_months, option, payer, term, amount]
+    }
+
     /// The amount of pension a year in pence.
     pub fn amount_pence(&self) -> u64 {
         u64::from(self.amount) * 100

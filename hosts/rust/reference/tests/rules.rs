@@ -46,26 +46,24 @@ fn tables_keep_the_print_rule_and_never_rise_along_a_row_or_fall_down_a_column()
 
 #[test]
 fn refusals_come_in_their_order() {
-    // Every field is wrong at first; each line mends the one that the refusal before it named.
+    // Every field is wrong at first; each step mends the one that the refusal before it named.
     let mut terms = Terms { age: 90, pension_age_years: 64, pension_age_months: 12, option: 3, payer: 3, term: 21, amount: 1 };
     let held = 6_500_00;
-    assert_eq!(quote(&terms, held, 999_999).refusal, 1);
-    terms.option = 1;
-    assert_eq!(quote(&terms, held, 999_999).refusal, 2);
-    terms.pension_age_years = 66;
-    assert_eq!(quote(&terms, held, 999_999).refusal, 2);
-    terms.pension_age_months = 11;
-    assert_eq!(quote(&terms, held, 999_999).refusal, 3);
-    terms.term = 20;
-    assert_eq!(quote(&terms, held, 999_999).refusal, 4);
-    terms.payer = 2;
-    assert_eq!(quote(&terms, held, 999_999).refusal, 4);
-    terms.payer = 1;
-    assert_eq!(quote(&terms, held, 999_999).refusal, 5);
-    terms.age = 45;
-    assert_eq!(quote(&terms, held, 999_999).refusal, 7);
-    terms.amount = 250;
-    assert_eq!(quote(&terms, held, 999_999).refusal, 8);
+    let steps: [(u32, fn(&mut Terms)); 9] = [
+        (1, |terms| terms.option = 1),
+        (2, |terms| terms.pension_age_years = 66),
+        (2, |terms| terms.pension_age_months = 11),
+        (3, |terms| terms.term = 20),
+        (4, |terms| terms.payer = 2),
+        (4, |terms| terms.payer = 1),
+        (5, |terms| terms.age = 45),
+        (7, |terms| terms.amount = 250),
+        (8, |_| ()),
+    ];
+    for (refusal, mend) in steps {
+        assert_eq!(quote(&terms, held, 999_999).refusal, refusal);
+        mend(&mut terms);
+    }
     assert_eq!(quote(&terms, 0, 999_999), Quote { refusal: 9, register: 999_999, ..Quote::default() });
     let quoted = quote(&terms, 0, 999_998);
     assert_eq!((quoted.refusal, quoted.next_number, quoted.register), (0, 999_999, 999_999));
