@@ -11,10 +11,10 @@ use borrow.Author.Tests.{ltb-false, eqb-true, eqb-false, eq-eqb, ne-eqb, not-fal
 use Rattle.common.specs.Choice.{pick}
 use Rattle.common.proofs.Tests.{or-false}
 use Rattle.rounding.proofs.Laws.{combine-most}
-use Rattle.election.specs.declared.Terms.{Terms}
+use Rattle.terms.specs.declared.Terms.{Terms}
 use Rattle.election.specs.declared.Priced.{Priced}
-use Rattle.election.specs.Rate.{tableRate}
-use Rattle.election.specs.Rules.{wrongOption, wrongPensionAge, wrongTerm, wrongPayer, noLowerRate, noUpperRate, wrongAmount, aboveCap, refusalOf}
+use Rattle.terms.specs.Rate.{tableRate}
+use Rattle.terms.specs.Rules.{wrongOption, wrongPensionAge, wrongTerm, wrongPayer, noLowerRate, noUpperRate, wrongAmount, aboveCap, refusalOf}
 use Rattle.election.specs.Price.{contributionAt, contributionIn, contributionOf, refused, accepted, pricedOf}
 use Rattle.election.specs.Told.{PensionAgeIn, Accepted}
 use Rattle.election.proofs.Rates.{table-rate-most}

@@ -9,8 +9,8 @@ use borrow.Author.Tests.{ne-eqb}
 use Rattle.common.specs.Choice.{pick}
 use Rattle.rates.specs.Rates.{rateOf, rowOf, rateIn, lumpRateOf}
 use Rattle.rates.proofs.Laws.{rate-in-row, rate-in-none, rate-most, lump-most}
-use Rattle.election.specs.declared.Terms.{Terms}
-use Rattle.election.specs.Rate.{tableRate, noRates, ratesAt, upperRatesAt, foundIn}
+use Rattle.terms.specs.declared.Terms.{Terms}
+use Rattle.terms.specs.Rate.{tableRate, noRates, ratesAt, upperRatesAt, foundIn}
 
 -- the row of a pension age has the table's rate
 pub found : (t : Terms) (p : ℕ) → foundIn t (ratesAt t p) ≡ tableRate t p

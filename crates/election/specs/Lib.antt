@@ -1,4 +1,2 @@
-pub mod Rate
-pub mod Rules
 pub mod Price
 pub mod Told

@@ -6,10 +6,10 @@ use Rattle.common.specs.Choice.{pick}
 use Rattle.rounding.specs.Nearest.{combine}
 use Rattle.money.specs.Money.{contribution}
 use Rattle.money.specs.Limits.{stepPounds}
-use Rattle.election.specs.declared.Terms.{Terms}
+use Rattle.terms.specs.declared.Terms.{Terms}
 use Rattle.election.specs.declared.Priced.{Priced}
-use Rattle.election.specs.Rate.{tableRate, noRates, ratesAt, upperRatesAt}
-use Rattle.election.specs.Rules.{refusalOf}
+use Rattle.terms.specs.Rate.{tableRate, noRates, ratesAt, upperRatesAt}
+use Rattle.terms.specs.Rules.{refusalOf}
 
 -- a table's own contribution: (amount ÷ 250) × rate
 unfoldable pub contributionAt : Terms → ℕ → ℕ

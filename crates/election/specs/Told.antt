@@ -1,24 +1,11 @@
 -- What the steps on the way to a price promise each other, and what holds of accepted terms.
 -- Assumes nothing.
-use mathlib.Core.Bool.{false}
 use mathlib.Core.Path.{_≡_}
 use Prim.Native.Nat.{ℕ, _+_, _*_, _/_, _≤_, _<_}
 use Rattle.money.specs.Limits.{stepPounds, capPence}
-use Rattle.election.specs.declared.Terms.{Terms}
-use Rattle.election.specs.Rate.{tableRate}
-use Rattle.election.specs.Rules.{wrongOption, wrongPensionAge, wrongTerm, wrongPayer, refusalOf}
-
--- no rule before the rates refuses
-pub record TermsPass (t : Terms) : Type 0 where
-  pub option : wrongOption t ≡ false
-  pub pension-age : wrongPensionAge t ≡ false
-  pub term : wrongTerm t ≡ false
-  pub payer : wrongPayer t ≡ false
-
--- r is the first refusal of 1 to 4, or 0
-pub record TermsTold (t : Terms) (r : ℕ) : Type 0 where
-  pub first : (existing : ℕ) → (r ≡ 0 → ⊥) → r ≡ refusalOf t existing
-  pub pass : r ≡ 0 → TermsPass t
+use Rattle.terms.specs.declared.Terms.{Terms}
+use Rattle.terms.specs.Rate.{tableRate}
+use Rattle.terms.specs.Told.{TermsPass}
 
 -- the rates of the needed tables, of terms that pass so far
 pub record Found (t : Terms) (lower upper : ℕ) : Type 0 where

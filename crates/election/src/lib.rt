@@ -1,4 +1,4 @@
-// The terms of an election: the first rule that refuses them, and what they cost.
+// What an election costs, or the first rule that refuses its terms.
 ghost use mathlib.Core.Path.{_≡_};
 ghost use mathlib.Core.Bool.{not, _&&_};
 ghost use Prim.Native.Nat.{_≤_, _<_, _^_};
@@ -6,24 +6,13 @@ ghost use lib.Dec.{eqb};
 ghost use Rattle.rounding.specs.Nearest.{combine};
 ghost use Rattle.money.specs.Money.{contribution};
 ghost use Rattle.money.specs.Limits.{capPounds};
-ghost use Rattle.election.specs.Rate.{ratesAt, upperRatesAt, foundIn};
-ghost use Rattle.election.specs.Rules.{wrongOption, wrongPensionAge, wrongPayer, wrongAmount, aboveCap, refusalOf};
+ghost use Rattle.terms.specs.Rate.{ratesAt, upperRatesAt, foundIn};
+ghost use Rattle.terms.specs.Rules.{aboveCap, refusalOf};
 ghost use Rattle.election.specs.Price.{contributionAt, refused, pricedOf};
-ghost use Rattle.election.specs.Told.{TermsTold, Found};
+ghost use Rattle.election.specs.Told.{Found};
 use money::ContributionPence;
 use money::PensionPence;
-
-// Age in whole years, pension age in years and months, 1 personal or 2 with dependant's pension, 1 member or 2 employer,
-// years of monthly payments or 0 for a lump sum, pounds of pension a year. Any numbers: price refuses bad ones.
-pub struct Terms {
-    pub age: u32,
-    pub years: u32,
-    pub months: u32,
-    pub option: u32,
-    pub payer: u32,
-    pub term: u32,
-    pub amount: u32,
-}
+use terms::Terms;
 
 // The refusal, or 0 with the contribution and the monthly rates of the only or lower table and of the upper.
 pub struct Priced {
@@ -31,57 +20,6 @@ pub struct Priced {
     pub contribution: ContributionPence,
     pub lower: [u32; 20],
     pub upper: [u32; 20],
-}
-
-// Pounds of pension a year that a rate is for.
-pub const STEP: u32 = 250;
-
-// The most pounds of pension a year that may be held.
-pub const CAP: u32 = 6500;
-
-fn wrong_option(t: Terms) -> bool
-    ensures { λ r. ⌜ r ≡ wrongOption t ⌝ }
-{
-    if t.option == 1 {
-        return false;
-    }
-    if t.option == 2 {
-        return false;
-    }
-    true
-}
-
-fn wrong_pension_age(t: Terms) -> bool
-    ensures { λ r. ⌜ r ≡ wrongPensionAge t ⌝ }
-{
-    if 11 < t.months {
-        return true;
-    }
-    if t.years < 65 {
-        return true;
-    }
-    68 * 12 < t.years as u64 * 12 + t.months as u64
-}
-
-fn wrong_payer(t: Terms) -> bool
-    ensures { λ r. ⌜ r ≡ wrongPayer t ⌝ }
-{
-    if t.payer == 1 {
-        return false;
-    }
-    if t.payer == 2 {
-        return 0 < t.term;
-    }
-    true
-}
-
-fn wrong_amount(t: Terms) -> bool
-    ensures { λ r. ⌜ r ≡ wrongAmount t ⌝ }
-{
-    if t.amount < STEP {
-        return true;
-    }
-    t.amount % STEP != 0
 }
 
 // Whether the upper table is needed and has no rate.
@@ -98,30 +36,11 @@ fn no_upper_rate(t: Terms, upper: u32) -> bool
 fn above_cap(t: Terms, existing: PensionPence) -> bool
     ensures { λ r. ⌜ r ≡ aboveCap t (existing .0) ⌝ }
 {
-    let cap = PensionPence::of_pounds(CAP);
+    let cap = PensionPence::of_pounds(money::CAP);
     if existing.is_above(cap) {
         return true;
     }
     PensionPence::of_pounds(t.amount).is_above(cap.less(existing))
-}
-
-// The rules that need no rate, 1 to 4: the first that refuses, else 0.
-fn terms_refusal(t: Terms) -> u32
-    ensures { λ r. ⌜ TermsTold t r ⌝ }
-{
-    if wrong_option(t) {
-        return 1;
-    }
-    if wrong_pension_age(t) {
-        return 2;
-    }
-    if 20 < t.term {
-        return 3;
-    }
-    if wrong_payer(t) {
-        return 4;
-    }
-    0
 }
 
 // The rules on rates, amount and cap, 5 to 8, where no earlier one refuses: the first that refuses, else 0.
@@ -135,7 +54,7 @@ fn price_refusal(t: Terms, lower: u32, upper: u32, existing: PensionPence) -> u3
     if no_upper_rate(t, upper) {
         return 6;
     }
-    if wrong_amount(t) {
+    if terms::wrong_amount(t) {
         return 7;
     }
     if above_cap(t, existing) {
@@ -179,7 +98,7 @@ fn cost(t: Terms, lower: u32, upper: u32) -> ContributionPence
     requires { ⌜ (t .amount ≤ capPounds) × (lower < 2 ^ 24) × (upper < 2 ^ 24) ⌝ }
     ensures { λ r. ⌜ r ≡ contribution (combine (t .months) (contributionAt t lower) (contributionAt t upper)) ⌝ }
 {
-    let units = t.amount / STEP;
+    let units = t.amount / money::STEP;
     let own = ContributionPence::of_units(units, lower);
     own.combine(ContributionPence::of_units(units, upper), t.months)
 }
@@ -199,7 +118,7 @@ fn refuse(n: u32) -> Priced
 pub fn price(t: Terms, existing: PensionPence) -> Priced
     ensures { λ r. ⌜ r ≡ pricedOf t (existing .0) ⌝ }
 {
-    let early = terms_refusal(t);
+    let early = terms::terms_refusal(t);
     if early != 0 {
         return refuse(early);
     }

@@ -5,6 +5,13 @@ ghost use lib.Dec.{ltb};
 ghost use Rattle.rounding.specs.Nearest.{blend, combine};
 ghost use Rattle.money.specs.Money.{pension, contribution};
 
+// Pounds of pension a year that a rate is for, and the same in pence.
+pub const STEP: u32 = 250;
+pub const UNIT: u64 = 25000;
+
+// The most pounds of pension a year that may be held.
+pub const CAP: u32 = 6500;
+
 pub struct PensionPence(pub u64);
 
 pub struct ContributionPence(pub u64);

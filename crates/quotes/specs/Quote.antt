@@ -3,8 +3,8 @@
 use Prim.Native.Nat.{ℕ, _+_}
 use lib.Dec.{leb, eqb}
 use Rattle.common.specs.Choice.{pick}
-use Rattle.election.specs.declared.Terms.{Terms}
-use Rattle.election.specs.Rules.{refusalOf}
+use Rattle.terms.specs.declared.Terms.{Terms}
+use Rattle.terms.specs.Rules.{refusalOf}
 use Rattle.election.specs.Price.{contributionOf}
 use Rattle.quotes.specs.declared.QuoteAnswer.{QuoteAnswer}
 use Rattle.quotes.specs.declared.QuoteAnswer.the-variants.{Refused, Made}

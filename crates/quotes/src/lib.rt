@@ -2,7 +2,7 @@
 ghost use mathlib.Core.Path.{_≡_};
 ghost use Rattle.quotes.specs.Quote.{quoteOf, numbersOf};
 ghost use Rattle.quotes.specs.Cap.{capDecisionOf, GreatestUnderCap};
-use election::Terms;
+use terms::Terms;
 use money::ContributionPence;
 use money::PensionPence;
 
@@ -64,7 +64,7 @@ pub fn cap_decision(existing: PensionPence) -> u32
     ensures is { λ r. ⌜ r ≡ capDecisionOf (existing .0) ⌝ }
     ensures greatest { λ r. ⌜ GreatestUnderCap (existing .0) r ⌝ }
 {
-    let left = PensionPence::of_pounds(election::CAP).less(existing);
-    let steps = left.whole_steps(PensionPence::of_pounds(election::STEP));
-    (steps * election::STEP as u64) as u32
+    let left = PensionPence::of_pounds(money::CAP).less(existing);
+    let steps = left.whole_steps(PensionPence::of_pounds(money::STEP));
+    (steps * money::STEP as u64) as u32
 }

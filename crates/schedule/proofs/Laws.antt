@@ -14,7 +14,7 @@ use Rattle.common.specs.Choice.{pick}
 use Rattle.rounding.specs.Nearest.{nearest, combine}
 use Rattle.rounding.proofs.HalfUp.{nearest-within-half}
 use Rattle.rounding.proofs.Laws.{combine-upper}
-use Rattle.election.specs.declared.Terms.{Terms}
+use Rattle.terms.specs.declared.Terms.{Terms}
 use Rattle.status.specs.Status.{statusOf, statusFrom}
 use Rattle.marks.specs.Reading.{marksOf}
 use Rattle.marks.proofs.Term.{marks-take}

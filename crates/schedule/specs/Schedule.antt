@@ -6,7 +6,7 @@ use lib.Dec.{ltb, eqb}
 use lib.ListN.{length, take, drop}
 use Rattle.common.specs.Choice.{pick}
 use Rattle.common.specs.Table.{tabulate}
-use Rattle.election.specs.declared.Terms.{Terms}
+use Rattle.terms.specs.declared.Terms.{Terms}
 use Rattle.settlement.specs.Settle.{settleRefusal, settlePlace, settleOf}
 use Rattle.schedule.specs.declared.Scheduled.{Scheduled}
 

@@ -8,7 +8,7 @@ use lib.ListN.{getD}
 use Rattle.common.specs.Choice.{pick}
 use Rattle.rounding.specs.Nearest.{nearest, combine}
 use Rattle.rates.specs.Rates.{rowOf}
-use Rattle.election.specs.declared.Terms.{Terms}
+use Rattle.terms.specs.declared.Terms.{Terms}
 use Rattle.status.specs.Status.{statusFrom}
 use Rattle.marks.specs.Reading.{oneMore, stepBy, marksOf}
 use Rattle.money.specs.Limits.{unit, capPence}

@@ -8,7 +8,7 @@ ghost use Rattle.settlement.specs.Told.{Monthly};
 ghost use Rattle.schedule.specs.Schedule.{filledOf, numbersOf, scheduleOf};
 ghost use Rattle.schedule.specs.Walk.{WalkWithin, WalkTold, heldOf, Holdable, Tables, UpperYears};
 use credit::Earned;
-use election::Terms;
+use terms::Terms;
 use marks::Reading;
 use money::PensionPence;
 
@@ -89,7 +89,7 @@ fn upper_years(t: Terms, lower: [u32; 20], upper: [u32; 20], only: [u32; 21]) ->
     if t.months == 0 {
         return only;
     }
-    years::year_credits(upper, t.amount / election::STEP, t.term)
+    years::year_credits(upper, t.amount / money::STEP, t.term)
 }
 
 // Writes the credit after each mark to the first entries of the lent list. A refusal writes nothing.
@@ -117,7 +117,7 @@ pub fn schedule(t: Terms, marks: &[u8], out: &mut [u32]) -> Scheduled
     }
     let lower = e.lower;
     let upper = e.upper;
-    let only = years::year_credits(lower, t.amount / election::STEP, t.term);
+    let only = years::year_credits(lower, t.amount / money::STEP, t.term);
     let other = upper_years(t, lower, upper, only);
     fill(t, only, other, marks, out);
     Scheduled {

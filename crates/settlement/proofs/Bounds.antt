@@ -12,8 +12,8 @@ use borrow.Author.Tests.{eqb-true, eqb-false}
 use lib.Dec.{eqb}
 use lib.ListN.{length}
 use Rattle.common.specs.Choice.{pick}
-use Rattle.election.specs.declared.Terms.{Terms}
-use Rattle.election.specs.Rules.{refusalOf}
+use Rattle.terms.specs.declared.Terms.{Terms}
+use Rattle.terms.specs.Rules.{refusalOf}
 use Rattle.election.specs.Price.{contributionOf}
 use Rattle.election.proofs.Laws.{accepted-facts, refusal-most, contribution-most}
 use Rattle.marks.specs.Counts.{paidMonths}

@@ -12,7 +12,7 @@ use lib.Dec.{eqb}
 use lib.ListN.{length, replicate}
 use Rattle.rounding.specs.Nearest.{nearest}
 use Rattle.rounding.proofs.HalfUp.{nearest-within-half, nearest-monotone}
-use Rattle.election.specs.declared.Terms.{Terms}
+use Rattle.terms.specs.declared.Terms.{Terms}
 use Rattle.marks.specs.Lawful.{Lawful, LawfulFor}
 use Rattle.status.specs.Status.{statusOf}
 use Rattle.status.proofs.StatusOf.{monthly-status}

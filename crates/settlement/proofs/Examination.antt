@@ -3,7 +3,7 @@
 use mathlib.Core.List.{List}
 use mathlib.Core.Path.{_≡_, sym, ap, _∙_}
 use Prim.Native.Nat.{ℕ, _+_, _<_}
-use Rattle.election.specs.declared.Terms.{Terms}
+use Rattle.terms.specs.declared.Terms.{Terms}
 use Rattle.election.proofs.Rates.{monthly-rates, monthly-upper-rates}
 use Rattle.status.specs.Status.{statusOf}
 use Rattle.settlement.specs.declared.Examined.{Examined}

@@ -7,8 +7,8 @@ use native.Mathlib.Decide.{ℕ-discrete}
 use native.Mathlib.Omega.{arith}
 use borrow.Author.Tests.{eq-eqb, ne-eqb}
 use lib.ListN.{length, take}
-use Rattle.election.specs.declared.Terms.{Terms}
-use Rattle.election.specs.Rules.{refusalOf}
+use Rattle.terms.specs.declared.Terms.{Terms}
+use Rattle.terms.specs.Rules.{refusalOf}
 use Rattle.election.specs.Told.{Accepted}
 use Rattle.election.proofs.Laws.{accepted-facts}
 use Rattle.marks.specs.Lawful.{LawfulFor}

@@ -6,7 +6,7 @@ use Prim.Native.Nat.{ℕ, _+_, _*_, _/_, _<_, _^_}
 use native.Mathlib.Omega.{arith}
 use Rattle.rounding.specs.Nearest.{nearest, combine}
 use Rattle.rates.specs.Rates.{rateOf, rowOf}
-use Rattle.election.specs.declared.Terms.{Terms}
+use Rattle.terms.specs.declared.Terms.{Terms}
 use Rattle.election.specs.Told.{Accepted}
 use Rattle.election.proofs.Rates.{monthly-rate}
 use Rattle.money.specs.Limits.{unit}

@@ -4,7 +4,7 @@ use mathlib.Core.List.{List}
 use Prim.Native.Nat.{ℕ, _+_, _/_}
 use Rattle.rounding.specs.Nearest.{nearest}
 use Rattle.rates.specs.Rates.{rateOf}
-use Rattle.election.specs.declared.Terms.{Terms}
+use Rattle.terms.specs.declared.Terms.{Terms}
 use Rattle.money.specs.Limits.{stepPounds}
 use Rattle.years.specs.Years.{Purchase}
 use Rattle.distance.specs.Fraction.{Fraction}

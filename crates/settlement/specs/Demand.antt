@@ -3,7 +3,7 @@
 use mathlib.Core.List.{List}
 use mathlib.Core.Path.{_≡_}
 use Prim.Native.Nat.{ℕ, _≤_}
-use Rattle.election.specs.declared.Terms.{Terms}
+use Rattle.terms.specs.declared.Terms.{Terms}
 use Rattle.status.specs.Status.{statusOf}
 use Rattle.credit.specs.Runs.{runCount}
 use Rattle.distance.specs.Distance.{Within, halfPence}

@@ -5,8 +5,8 @@ use Prim.Native.Nat.{ℕ, _+_}
 use lib.Dec.{eqb}
 use Rattle.common.specs.Choice.{pick}
 use Rattle.money.specs.Money.{contribution}
-use Rattle.election.specs.declared.Terms.{Terms}
-use Rattle.election.specs.Rate.{noRates, ratesAt, upperRatesAt}
+use Rattle.terms.specs.declared.Terms.{Terms}
+use Rattle.terms.specs.Rate.{noRates, ratesAt, upperRatesAt}
 use Rattle.election.specs.Price.{contributionOf}
 use Rattle.marks.specs.Counts.{paidMonths}
 use Rattle.status.specs.Status.{statusOf}

@@ -4,8 +4,8 @@ use mathlib.Core.List.{List}
 use Prim.Native.Nat.{ℕ, _*_}
 use lib.Dec.{eqb}
 use Rattle.common.specs.Choice.{pick}
-use Rattle.election.specs.declared.Terms.{Terms}
-use Rattle.election.specs.Rules.{refusalOf}
+use Rattle.terms.specs.declared.Terms.{Terms}
+use Rattle.terms.specs.Rules.{refusalOf}
 use Rattle.election.specs.Price.{contributionOf}
 use Rattle.marks.specs.Counts.{paidMonths}
 use Rattle.status.specs.Status.{statusOf}

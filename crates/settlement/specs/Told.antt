@@ -5,7 +5,7 @@ use mathlib.Core.Path.{_≡_}
 use Prim.Native.Nat.{ℕ, _+_, _≤_, _<_}
 use Rattle.money.specs.Limits.{capPence}
 use Rattle.rates.specs.Rates.{rowOf}
-use Rattle.election.specs.declared.Terms.{Terms}
+use Rattle.terms.specs.declared.Terms.{Terms}
 use Rattle.election.specs.Told.{Accepted}
 use Rattle.settlement.specs.Settle.{SettleNumbers}
 

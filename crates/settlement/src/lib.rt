@@ -10,7 +10,7 @@ ghost use Rattle.settlement.specs.Settle.{creditAtStatus, settleOf, numb
 ghost use Rattle.settlement.specs.Examine.{refusedExamined, examinedOf};
 ghost use Rattle.settlement.specs.Demand.{Demand3};
 ghost use Rattle.settlement.specs.Told.{Monthly};
-use election::Terms;
+use terms::Terms;
 use money::ContributionPence;
 use money::PensionPence;
 
@@ -86,7 +86,7 @@ fn earned(t: Terms, lower: [u32; 20], upper: [u32; 20], marks: &[u8]) -> Pension
     requires { ⌜ length (now marks) ≤ 240 ⌝ }
     ensures { λ r. ⌜ r ≡ pension (creditOf t (now (marks .entry))) ⌝ }
 {
-    let units = t.amount / election::STEP;
+    let units = t.amount / money::STEP;
     let only = credit::credit_in(years::year_credits(lower, units, t.term), marks);
     if t.months == 0 {
         return only;

@@ -8,10 +8,12 @@ use borrow.Author.Needs.{needs}
 use Rattle.election.proofs.Laws.{pension-age-in, priced-refused, priced-accepted, accepted-facts}
 use Rattle.election.proofs.Rates.{found, found-upper, found-upper-most, table-rate-most}
 use Rattle.election.specs.Price.{contributionAt, contributionIn, contributionOf, refused, accepted, pricedOf}
-use Rattle.election.specs.Rate.{tableRate, ratesAt, upperRatesAt, foundIn}
-use Rattle.election.specs.Rules.{refusalOf}
+use Rattle.terms.specs.Rate.{tableRate, ratesAt, upperRatesAt, foundIn}
+use Rattle.terms.specs.Rules.{refusalOf, early}
+use Rattle.terms.specs.Told.{TermsTold}
+use Rattle.terms.proofs.Laws.{terms-told}
 use Rattle.election.specs.declared.Priced.{Priced}
-use Rattle.election.specs.declared.Terms.{Terms}
+use Rattle.terms.specs.declared.Terms.{Terms}
 use Rattle.money.specs.Money.{contribution}
 use Rattle.money.specs.declared.ContributionPence.{ContributionPence}
 use Rattle.rounding.proofs.Laws.{combine-upper}
@@ -35,6 +37,9 @@ whole : (t : Terms) (existing : ℕ) {k : ContributionPence} {lower upper : List
     → _≡_ {A = Priced} (record { refusal = 0; contribution = k; lower = lower; upper = upper }) (pricedOf t existing)
 whole t existing h p q r = rw (p, q, r) (sym (priced-accepted t existing h))
 
+early-told : (t : Terms) {n : ℕ} → n ≡ early (refusalOf t 0) → TermsTold t n
+early-told t e = rw e (terms-told t)
+
 terms-refusal-requires : tie.Need-terms-refusal-requires
 terms-refusal-requires c κs = search needs
 
@@ -43,7 +48,7 @@ refuse-requires c κs = search needs
 
 returns : tie.Need-returns
 returns c =
-    let told = c .before .before .terms-refusal .ensures in
+    let told = early-told _ (c .before .before .terms-refusal .ensures) in
     let some = c .before .if1 .taken in
     c .refuse .ensures ∙ first _ _ _ (told .first _ some) some
 
@@ -51,7 +56,7 @@ rates-at-requires : tie.Need-rates-at-requires
 rates-at-requires c κs = search needs
 
 add-upper-rates-at : tie.Need-add-upper-rates-at
-add-upper-rates-at c = omega (arith, pension-age-in _ (c .before .before .before .terms-refusal .ensures .pass (c .before .before .if1 .left) .pension-age))
+add-upper-rates-at c = omega (arith, pension-age-in _ (early-told _ (c .before .before .before .terms-refusal .ensures) .pass (c .before .before .if1 .left) .pension-age))
 
 upper-rates-at-requires : tie.Need-upper-rates-at-requires
 upper-rates-at-requires c κs = search needs
@@ -66,7 +71,7 @@ price-refusal-requires : tie.Need-price-refusal-requires
 price-refusal-requires c κs =
     let t = c .before .before .before .before .before .before .before .args .t in
     record {
-      pass = c .before .before .before .before .before .before .terms-refusal .ensures .pass (c .before .before .before .before .before .if1 .left);
+      pass = early-told _ (c .before .before .before .before .before .before .terms-refusal .ensures) .pass (c .before .before .before .before .before .if1 .left);
       lower-is = c .before .rate-of .ensures ∙ ap (foundIn t) (c .before .before .before .before .rates-at .ensures) ∙ found t _;
       upper-is = λ odd. c .rate-of2 .ensures ∙ ap (foundIn t) (c .before .before .upper-rates-at .ensures) ∙ found-upper t _ odd;
     }

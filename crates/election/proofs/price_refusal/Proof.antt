@@ -6,9 +6,9 @@ use Prim.Native.Nat.{ℕ, _+_}
 use lib.Dec.{eqb}
 use borrow.Author.Needs.{needs}
 use borrow.Author.Tests.{eq-eqb, ne-eqb, eqb-false}
-use Rattle.election.specs.Rate.{tableRate}
-use Rattle.election.specs.Rules.{noLowerRate, noUpperRate, refusalOf}
-use Rattle.election.specs.declared.Terms.{Terms}
+use Rattle.terms.specs.Rate.{tableRate}
+use Rattle.terms.specs.Rules.{noLowerRate, noUpperRate, refusalOf}
+use Rattle.terms.specs.declared.Terms.{Terms}
 use Rattle.election.proofs.price_refusal.Statement.{statement}
 use Rattle.election.proofs.price_refusal.Tie as tie
 

@@ -2,7 +2,7 @@
 -- Assumes nothing.
 use borrow.Author.Needs.{needs}
 use borrow.Author.Tests.{eq-eqb, ne-eqb}
-use Rattle.election.specs.Rate.{foundIn}
+use Rattle.terms.specs.Rate.{foundIn}
 use Rattle.election.proofs.rate_of.Statement.{statement}
 use Rattle.election.proofs.rate_of.Tie as tie
 

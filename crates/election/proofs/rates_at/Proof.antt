@@ -2,7 +2,7 @@
 -- Assumes nothing.
 use borrow.Author.Needs.{needs}
 use borrow.Author.Tests.{eq-eqb, ne-eqb}
-use Rattle.election.specs.Rate.{ratesAt}
+use Rattle.terms.specs.Rate.{ratesAt}
 use Rattle.election.proofs.rates_at.Statement.{statement}
 use Rattle.election.proofs.rates_at.Tie as tie
 

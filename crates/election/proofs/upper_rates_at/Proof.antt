@@ -2,7 +2,7 @@
 -- Assumes nothing.
 use borrow.Author.Needs.{needs}
 use borrow.Author.Tests.{eq-eqb, ne-eqb}
-use Rattle.election.specs.Rate.{upperRatesAt}
+use Rattle.terms.specs.Rate.{upperRatesAt}
 use Rattle.election.proofs.upper_rates_at.Statement.{statement}
 use Rattle.election.proofs.upper_rates_at.Tie as tie
 

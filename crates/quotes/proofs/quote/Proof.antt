@@ -7,9 +7,9 @@ use borrow.Author.Needs.{needs}
 use borrow.Author.Tests.{eq-eqb, ne-eqb, le-leb, lt-leb}
 use Rattle.election.proofs.Laws.{priced-refusal, priced-contribution}
 use Rattle.election.specs.Price.{contributionOf, pricedOf}
-use Rattle.election.specs.Rules.{refusalOf}
+use Rattle.terms.specs.Rules.{refusalOf}
 use Rattle.election.specs.declared.Priced.{Priced}
-use Rattle.election.specs.declared.Terms.{Terms}
+use Rattle.terms.specs.declared.Terms.{Terms}
 use Rattle.quotes.specs.Quote.{QuoteNumbers, quoteRefusal, quoteOf, numbersOf}
 use Rattle.quotes.proofs.quote.Statement.{statement}
 use Rattle.quotes.proofs.quote.Tie as tie

@@ -10,7 +10,7 @@ use borrow.Author.Needs.{needs}
 use Rattle.common.proofs.Written.{Written, written-none, written-more, written-list}
 use Rattle.credit.specs.Earned.{nothingYet, afterMarks}
 use Rattle.credit.specs.declared.Earned.{Earned}
-use Rattle.election.specs.declared.Terms.{Terms}
+use Rattle.terms.specs.declared.Terms.{Terms}
 use Rattle.marks.proofs.Term.{not-too-many}
 use Rattle.marks.specs.Reading.{startOf, readOn}
 use Rattle.marks.specs.declared.Reading.{Reading}

@@ -8,7 +8,7 @@ use lib.ListN.{length, getD}
 use borrow.Author.Needs.{needs}
 use borrow.Author.Tests.{eq-eqb, ne-eqb, lt-ltb, le-ltb}
 use Rattle.common.specs.Table.{tabulate}
-use Rattle.election.specs.declared.Terms.{Terms}
+use Rattle.terms.specs.declared.Terms.{Terms}
 use Rattle.schedule.specs.Schedule.{ScheduleNumbers, filledOf, scheduleOf}
 use Rattle.schedule.specs.Walk.{Tables}
 use Rattle.settlement.proofs.Purchases.{lower-priced, years-of}

@@ -13,7 +13,7 @@ use Rattle.years.specs.SoundRates.{purchase}
 use Rattle.years.specs.Promises.{YearCredits}
 use Rattle.money.specs.Limits.{unit}
 use Rattle.election.specs.Told.{Accepted}
-use Rattle.election.specs.declared.Terms.{Terms}
+use Rattle.terms.specs.declared.Terms.{Terms}
 use Rattle.money.specs.Money.{pension}
 use Rattle.money.specs.declared.PensionPence.{PensionPence}
 use Rattle.rates.specs.Rates.{rowOf}

@@ -6,10 +6,10 @@ use Prim.Native.Nat.{ℕ, _+_}
 use borrow.Author.Needs.{needs}
 use Rattle.election.proofs.Laws.{priced-refusal, priced-accepted}
 use Rattle.election.specs.Price.{contributionOf, accepted, pricedOf}
-use Rattle.election.specs.Rate.{ratesAt, upperRatesAt}
-use Rattle.election.specs.Rules.{refusalOf}
+use Rattle.terms.specs.Rate.{ratesAt, upperRatesAt}
+use Rattle.terms.specs.Rules.{refusalOf}
 use Rattle.election.specs.declared.Priced.{Priced}
-use Rattle.election.specs.declared.Terms.{Terms}
+use Rattle.terms.specs.declared.Terms.{Terms}
 use Rattle.status.proofs.StatusOf.{status-lawful}
 use Rattle.marks.proofs.Term.{marks-counts, marks-lawful}
 use Rattle.marks.specs.Counts.{paidMonths}

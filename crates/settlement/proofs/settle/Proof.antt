@@ -9,7 +9,7 @@ use lib.ListN.{length}
 use borrow.Author.Needs.{needs}
 use Rattle.common.specs.Choice.{pick}
 use Rattle.election.proofs.Laws.{contribution-most}
-use Rattle.election.specs.declared.Terms.{Terms}
+use Rattle.terms.specs.declared.Terms.{Terms}
 use Rattle.marks.proofs.Counts.{months-most}
 use Rattle.status.proofs.StatusOf.{not-lump}
 use Rattle.money.specs.Money.{pension, contribution}

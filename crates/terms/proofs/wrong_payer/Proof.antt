@@ -1,10 +1,10 @@
--- `election::wrong_payer` meets its contract: test by test.
+-- `terms::wrong_payer` meets its contract: test by test.
 -- Assumes nothing.
 use mathlib.Core.Path.{refl}
 use borrow.Author.Tests.{eq-eqb, ne-eqb}
-use Rattle.election.specs.Rules.{wrongPayer}
-use Rattle.election.proofs.wrong_payer.Statement.{statement}
-use Rattle.election.proofs.wrong_payer.Tie as tie
+use Rattle.terms.specs.Rules.{wrongPayer}
+use Rattle.terms.proofs.wrong_payer.Statement.{statement}
+use Rattle.terms.proofs.wrong_payer.Tie as tie
 
 returns : tie.Need-returns
 unfolding wrongPayer

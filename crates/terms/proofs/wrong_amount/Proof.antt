@@ -1,9 +1,9 @@
--- `election::wrong_amount` meets its contract: test by test.
+-- `terms::wrong_amount` meets its contract: test by test.
 -- Assumes nothing.
 use borrow.Author.Tests.{lt-ltb, le-ltb}
-use Rattle.election.specs.Rules.{wrongAmount}
-use Rattle.election.proofs.wrong_amount.Statement.{statement}
-use Rattle.election.proofs.wrong_amount.Tie as tie
+use Rattle.terms.specs.Rules.{wrongAmount}
+use Rattle.terms.proofs.wrong_amount.Statement.{statement}
+use Rattle.terms.proofs.wrong_amount.Tie as tie
 
 returns : tie.Need-returns
 unfolding wrongAmount

@@ -1,10 +1,10 @@
--- `election::wrong_pension_age` meets its contract: test by test.
+-- `terms::wrong_pension_age` meets its contract: test by test.
 -- Assumes nothing.
 use borrow.Author.Needs.{needs}
 use borrow.Author.Tests.{lt-ltb, le-ltb}
-use Rattle.election.specs.Rules.{wrongPensionAge}
-use Rattle.election.proofs.wrong_pension_age.Statement.{statement}
-use Rattle.election.proofs.wrong_pension_age.Tie as tie
+use Rattle.terms.specs.Rules.{wrongPensionAge}
+use Rattle.terms.proofs.wrong_pension_age.Statement.{statement}
+use Rattle.terms.proofs.wrong_pension_age.Tie as tie
 
 returns : tie.Need-returns
 unfolding wrongPensionAge

@@ -1,9 +1,9 @@
--- `election::wrong_option` meets its contract: test by test.
+-- `terms::wrong_option` meets its contract: test by test.
 -- Assumes nothing.
 use borrow.Author.Tests.{eq-eqb, ne-eqb}
-use Rattle.election.specs.Rules.{wrongOption}
-use Rattle.election.proofs.wrong_option.Statement.{statement}
-use Rattle.election.proofs.wrong_option.Tie as tie
+use Rattle.terms.specs.Rules.{wrongOption}
+use Rattle.terms.proofs.wrong_option.Statement.{statement}
+use Rattle.terms.proofs.wrong_option.Tie as tie
 
 returns : tie.Need-returns
 unfolding wrongOption

@@ -5,8 +5,8 @@ use Prim.Native.Nat.{ℕ, _+_, _*_, _%_}
 use lib.Dec.{ltb, eqb}
 use Rattle.common.specs.Choice.{pick}
 use Rattle.money.specs.Limits.{stepPounds, capPence}
-use Rattle.election.specs.declared.Terms.{Terms}
-use Rattle.election.specs.Rate.{tableRate}
+use Rattle.terms.specs.declared.Terms.{Terms}
+use Rattle.terms.specs.Rate.{tableRate}
 
 -- 1: no such option
 unfoldable pub wrongOption : Terms → Bool
@@ -51,3 +51,7 @@ refusalOf t existing =
     (pick (noUpperRate t) 6
     (pick (wrongAmount t) 7
     (pick (aboveCap t existing) 8 0)))))))
+
+-- of a refusal's number, those of the rules that need no rate, 1 to 4
+unfoldable pub early : ℕ → ℕ
+early n = pick (ltb n 5) n 0

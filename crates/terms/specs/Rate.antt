@@ -6,7 +6,7 @@ use lib.Dec.{eqb}
 use lib.ListN.{replicate}
 use Rattle.common.specs.Choice.{pick}
 use Rattle.rates.specs.Rates.{rateOf, rowOf, rateIn, lumpRateOf}
-use Rattle.election.specs.declared.Terms.{Terms}
+use Rattle.terms.specs.declared.Terms.{Terms}
 
 -- the rate per £250 at a whole pension age: of Table S for a lump sum, else of the monthly table; 0 where there is none
 unfoldable pub tableRate : Terms → ℕ → ℕ

@@ -1,0 +1,79 @@
+// The terms of an election, and the rules that refuse them before a rate is looked up.
+ghost use mathlib.Core.Path.{_≡_};
+ghost use Rattle.terms.specs.Rules.{wrongOption, wrongPensionAge, wrongPayer, wrongAmount, refusalOf, early};
+
+// Age in whole years, pension age in years and months, 1 personal or 2 with dependant's pension, 1 member or 2 employer,
+// years of monthly payments or 0 for a lump sum, pounds of pension a year. Any numbers: price refuses bad ones.
+pub struct Terms {
+    pub age: u32,
+    pub years: u32,
+    pub months: u32,
+    pub option: u32,
+    pub payer: u32,
+    pub term: u32,
+    pub amount: u32,
+}
+
+fn wrong_option(t: Terms) -> bool
+    ensures { λ r. ⌜ r ≡ wrongOption t ⌝ }
+{
+    if t.option == 1 {
+        return false;
+    }
+    if t.option == 2 {
+        return false;
+    }
+    true
+}
+
+fn wrong_pension_age(t: Terms) -> bool
+    ensures { λ r. ⌜ r ≡ wrongPensionAge t ⌝ }
+{
+    if 11 < t.months {
+        return true;
+    }
+    if t.years < 65 {
+        return true;
+    }
+    68 * 12 < t.years as u64 * 12 + t.months as u64
+}
+
+fn wrong_payer(t: Terms) -> bool
+    ensures { λ r. ⌜ r ≡ wrongPayer t ⌝ }
+{
+    if t.payer == 1 {
+        return false;
+    }
+    if t.payer == 2 {
+        return 0 < t.term;
+    }
+    true
+}
+
+pub fn wrong_amount(t: Terms) -> bool
+    ensures { λ r. ⌜ r ≡ wrongAmount t ⌝ }
+{
+    if t.amount < money::STEP {
+        return true;
+    }
+    t.amount % money::STEP != 0
+}
+
+// The rules that need no rate, 1 to 4: the first that refuses, else 0.
+pub fn terms_refusal(t: Terms) -> u32
+    ensures { λ r. ⌜ r ≡ early (refusalOf t 0) ⌝ }
+{
+    if wrong_option(t) {
+        return 1;
+    }
+    if wrong_pension_age(t) {
+        return 2;
+    }
+    if 20 < t.term {
+        return 3;
+    }
+    if wrong_payer(t) {
+        return 4;
+    }
+    0
+}
