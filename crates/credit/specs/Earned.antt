@@ -1,7 +1,7 @@
 -- Marks read one at a time from the left: what they have earned so far. proofs/Runs shows that this is the sum over the runs.
 -- Assumes nothing.
 use mathlib.Core.List.{List, [], _∷_}
-use Prim.Native.Nat.{ℕ, _+_, _-_}
+use Prim.Native.Nat.{ℕ, _+_, _-_, _*_, _≤_, _<_, _^_}
 use lib.Dec.{eqb}
 use Rattle.common.specs.Choice.{pick}
 use Rattle.money.specs.Money.{pension}
@@ -27,3 +27,8 @@ afterMark round years e mark =
 unfoldable pub afterMarks : (ℕ → ℕ → ℕ) → List ℕ → Earned → List ℕ → Earned
 afterMarks round years e [] = e
 afterMarks round years e (mark ∷ marks) = afterMarks round years (afterMark round years e mark) marks
+
+-- what a state has to keep to for its sum to fit: few enough marks, each of which earned less than 2 ^ 32 pence
+pub record EarnedWithin (e : Earned) : Type 0 where
+  pub few : e .month < 2 ^ 31
+  pub small : e .sum .0 ≤ e .month * 2 ^ 32

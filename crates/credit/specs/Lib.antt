@@ -1,4 +1,3 @@
 pub mod Runs
 pub mod Credit
 pub mod Earned
-pub mod Promises

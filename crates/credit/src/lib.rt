@@ -1,11 +1,10 @@
 // The credit of one table for a list of marks.
 ghost use mathlib.Core.Path.{_≡_};
-ghost use Prim.Native.Nat.{_<_, _^_};
+ghost use Prim.Native.Nat.{_+_, _*_, _≤_, _<_, _^_};
 ghost use lib.ListN.{length};
 ghost use Rattle.rounding.specs.Nearest.{nearest};
 ghost use Rattle.money.specs.Money.{pension};
-ghost use Rattle.credit.specs.Earned.{nothingYet};
-ghost use Rattle.credit.specs.Promises.{EarnedWithin, CreditAt, After};
+ghost use Rattle.credit.specs.Earned.{nothingYet, creditAt, afterMark, EarnedWithin};
 ghost use Rattle.credit.specs.Credit.{creditOver};
 use money::PensionPence;
 
@@ -31,7 +30,8 @@ pub fn nothing_yet() -> Earned
 // The credit if no mark follows: an open run ends at the present month.
 pub fn credit_at(e: Earned, years: [u32; 21]) -> PensionPence
     requires { ⌜ EarnedWithin e ⌝ }
-    ensures { λ r. ⌜ CreditAt years e r ⌝ }
+    ensures is { λ r. ⌜ r ≡ pension (creditAt nearest years e) ⌝ }
+    ensures small { λ r. ⌜ r .0 ≤ (e .month + 1) * 2 ^ 32 ⌝ }
 {
     let sum = e.sum;
     if e.from == e.month {
@@ -43,7 +43,8 @@ pub fn credit_at(e: Earned, years: [u32; 21]) -> PensionPence
 // One mark more. The years are looked at only where a run closes.
 pub fn after_mark(e: Earned, years: [u32; 21], mark: u8) -> Earned
     requires { ⌜ EarnedWithin e ⌝ }
-    ensures { λ r. ⌜ After years e mark r ⌝ }
+    ensures is { λ r. ⌜ r ≡ afterMark nearest years e mark ⌝ }
+    ensures within { λ r. ⌜ (r .month ≡ e .month + 1) × (r .sum .0 ≤ r .month * 2 ^ 32) ⌝ }
 {
     if mark == 1 {
         let sum = e.sum;

@@ -13,8 +13,7 @@ use Rattle.status.specs.Status.{statusFrom}
 use Rattle.marks.specs.Reading.{oneMore, stepBy, marksOf}
 use Rattle.money.specs.Limits.{unit, capPence}
 use Rattle.years.specs.Years.{yearCredits}
-use Rattle.credit.specs.Earned.{nothingYet, creditAt, afterMark, afterMarks}
-use Rattle.credit.specs.Promises.{EarnedWithin}
+use Rattle.credit.specs.Earned.{nothingYet, creditAt, afterMark, afterMarks, EarnedWithin}
 use Rattle.settlement.specs.Credit.{purchaseIn}
 use Rattle.settlement.specs.Settle.{settleRefusal}
 use Rattle.schedule.specs.declared.Walk.{Walk}

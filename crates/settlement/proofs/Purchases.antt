@@ -13,7 +13,6 @@ use Rattle.money.specs.Limits.{unit}
 use Rattle.years.specs.Years.{yearCredits}
 use Rattle.years.specs.SoundRates.{purchase, SoundRates}
 use Rattle.credit.specs.Credit.{creditIn}
-use Rattle.years.specs.Promises.{YearCredits}
 use Rattle.years.proofs.SoundRates.{purchase-row, falling-row, sound-row}
 use Rattle.distance.specs.Distance.{Sound}
 use Rattle.settlement.specs.Credit.{purchaseIn, purchasesOf, creditOf}
@@ -49,8 +48,8 @@ module _ (t : Terms) (a : Accepted t 0) (monthly : 0 < t .term) where
 
 -- the whole-year credits that the code makes of a table's row are the table's
 pub years-of : (t : Terms) (p : ℕ) (row : List ℕ) {years : List ℕ} → row ≡ rowOf (t .option) p (t .age)
-    → YearCredits (purchase row (t .amount / 250) (t .term)) years → years ≡ yearCredits nearest (purchaseIn t p)
-years-of t p row e y = y .is ∙ rw (e, purchase-row (t .option) p (t .age) (t .amount / 250) (t .term))
+    → years ≡ yearCredits nearest (purchase row (t .amount / 250) (t .term)) → years ≡ yearCredits nearest (purchaseIn t p)
+years-of t p row e y = y ∙ rw (e, purchase-row (t .option) p (t .age) (t .amount / 250) (t .term))
 
 -- the credit of a contract is that of its tables combined
 pub credit-combined : (t : Terms) (ms : List ℕ)

@@ -1,3 +1,2 @@
 pub mod Years
 pub mod SoundRates
-pub mod Promises

@@ -1,11 +1,12 @@
 // The whole-year credits of one table, and the value at a contract month.
 ghost use mathlib.Core.Path.{_≡_};
-ghost use Prim.Native.Nat.{_*_, _-_, _<_, _≤_, _^_};
+ghost use Prim.Native.Nat.{ℕ, _*_, _-_, _<_, _≤_, _^_};
 ghost use lib.ListN.{getD};
 ghost use Rattle.rounding.specs.Nearest.{nearest};
 ghost use Rattle.money.specs.Limits.{unit};
+ghost use Rattle.money.specs.Money.{pension};
 ghost use Rattle.years.specs.SoundRates.{purchase, SoundRates};
-ghost use Rattle.years.specs.Promises.{YearCredits, MonthValue};
+ghost use Rattle.years.specs.Years.{yearCredits, monthValue};
 use money::ContributionPence;
 use money::PensionPence;
 
@@ -20,7 +21,8 @@ fn year_credit(own: ContributionPence, rate: u32) -> u32
 // The twenty-one whole-year credits of one table's rates. Year 0 and the years past the term stay 0.
 pub fn year_credits(rates: [u32; 20], units: u32, term: u32) -> [u32; 21]
     requires { ⌜ SoundRates (purchase rates units term) ⌝ }
-    ensures { λ r. ⌜ YearCredits (purchase rates units term) r ⌝ }
+    ensures is { λ r. ⌜ r ≡ yearCredits nearest (purchase rates units term) ⌝ }
+    ensures most { λ r. ⌜ ((n : ℕ) → getD r n 0 ≤ units * unit) ⌝ }
 {
     let own = ContributionPence::of_units(units, rates::rate_in(rates, term));
     let mut years = [0u32; 21];
@@ -46,7 +48,8 @@ fn year_at(years: [u32; 21], n: u32) -> u32
 
 // The value at a contract month. Both ends of every run are valued here.
 pub fn month_value(years: [u32; 21], month: u32) -> PensionPence
-    ensures { λ r. ⌜ MonthValue years month r ⌝ }
+    ensures is { λ r. ⌜ r ≡ pension (monthValue nearest years month) ⌝ }
+    ensures fits { λ r. ⌜ r .0 < 2 ^ 32 ⌝ }
 {
     let n = month / 12;
     let year = PensionPence(year_at(years, n) as u64);

@@ -12,7 +12,7 @@ add-t8 c = search needs
 
 returns : tie.Need-returns
 unfolding afterMark
-returns c = record { is = search tests; next = search needs; small = omega arith }
+returns c = (search tests, (search needs, omega arith))
 
 credit-at-requires : tie.Need-credit-at-requires
 credit-at-requires c κs = search needs
@@ -22,7 +22,7 @@ add-month c = search needs
 
 returns-2 : tie.Need-returns-2
 unfolding afterMark
-returns-2 c = record { is = search (tests, ← c .before .credit-at .ensures .is); next = search needs; small = omega arith }
+returns-2 c = (search (tests, ← c .before .credit-at .ensures .0), (search needs, omega arith))
 
 pub after-mark-spec : {M : Type 1} → statement M
 after-mark-spec = tie.close (tie.spec add-t8 returns credit-at-requires add-month returns-2)

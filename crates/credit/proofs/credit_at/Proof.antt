@@ -25,7 +25,7 @@ unfolding creditAt
 one-open years e end start gain r p q g h = h ∙ rw (g, p, q)
 
 returns : tie.Need-returns
-returns c = record { is = none-open _ _ (c .if1 .taken); small = omega arith }
+returns c = (none-open _ _ (c .if1 .taken), omega arith)
 
 month-value-requires : tie.Need-month-value-requires
 month-value-requires c κs = search needs
@@ -37,7 +37,7 @@ less-requires : tie.Need-less-requires
 less-requires c κs = search needs
 
 gain-small : (c : tie.After-less) → c .less .result .0 < 2 ^ 32
-gain-small c = omega (arith, ap (λ (p : PensionPence). p .0) (c .less .ensures), c .before .before .month-value .ensures .fits)
+gain-small c = omega (arith, ap (λ (p : PensionPence). p .0) (c .less .ensures), c .before .before .month-value .ensures .1)
 
 plus-requires : tie.Need-plus-requires
 plus-requires c κs = omega (arith, gain-small c)
@@ -45,10 +45,8 @@ plus-requires c κs = omega (arith, gain-small c)
 returns-2 : tie.Need-returns-2
 returns-2 c =
     let b = c .before .before in
-    record {
-      is = one-open _ _ _ _ _ _ (b .before .month-value .ensures .is) (b .month-value2 .ensures .is) (c .before .less .ensures) (c .plus .ensures);
-      small = omega (arith, gain-small (c .before), ap (λ (p : PensionPence). p .0) (c .plus .ensures));
-    }
+    (one-open _ _ _ _ _ _ (b .before .month-value .ensures .0) (b .month-value2 .ensures .0) (c .before .less .ensures) (c .plus .ensures),
+    omega (arith, gain-small (c .before), ap (λ (p : PensionPence). p .0) (c .plus .ensures)))
 
 pub credit-at-spec : {M : Type 1} → statement M
 credit-at-spec =

@@ -53,7 +53,7 @@ loop-again c =
       search needs,
       search needs,
       search needs,
-      rw (one-mark-more nearest (a .years) nothingYet (now (a .marks)) (w .i) (omega arith), ← w .inv .3) (c .after-mark .ensures .is),
+      rw (one-mark-more nearest (a .years) nothingYet (now (a .marks)) (w .i) (omega arith), ← w .inv .3) (c .after-mark .ensures .0),
     )
 
 credit-at-requires : tie.Need-credit-at-requires Inv-loop μ-loop
@@ -63,7 +63,7 @@ returns : tie.Need-returns Inv-loop μ-loop
 returns c =
     let w = c .before .before .loop in
     let a = c .before .before .before .before .before .args in
-    c .credit-at .ensures .is
+    c .credit-at .ensures .0
     ∙ ap pension (rw (w .inv .3, take-all (w .i) (now (a .marks)) (c .before .loop-test .left)) (by-runs nearest (a .years) (now (a .marks))))
 
 pub credit-in-spec : {M : Type 1} → statement M

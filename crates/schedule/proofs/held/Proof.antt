@@ -25,19 +25,19 @@ credit-at-requires c κs = search needs
 returns-2 : tie.Need-returns-2
 unfolding heldOf
 returns-2 c =
-    rw (sym (c .before .before .before .before .before .status .ensures), ne-eqb _ _ (c .before .before .before .before .if1 .left), combine-none _ _ _ (c .if2 .taken)) (c .before .before .credit-at .ensures .is)
+    rw (sym (c .before .before .before .before .before .status .ensures), ne-eqb _ _ (c .before .before .before .before .if1 .left), combine-none _ _ _ (c .if2 .taken)) (c .before .before .credit-at .ensures .0)
 
 credit-at-requires-2 : tie.Need-credit-at-requires-2
 credit-at-requires-2 c κs = search needs
 
 combine-requires : tie.Need-combine-requires
-combine-requires c κs = (rw (c .before .before .before .before .credit-at .ensures .is) (c .before .before .before .before .before .before .before .before .before .pre .lower-fits), rw (c .credit-at2 .ensures .is) (c .before .before .before .before .before .before .before .before .before .pre .upper-fits))
+combine-requires c κs = (rw (c .before .before .before .before .credit-at .ensures .0) (c .before .before .before .before .before .before .before .before .before .pre .lower-fits), rw (c .credit-at2 .ensures .0) (c .before .before .before .before .before .before .before .before .before .pre .upper-fits))
 
 returns-3 : tie.Need-returns-3
 unfolding heldOf
 returns-3 c =
     rw (sym (c .before .before .before .before .before .before .before .before .status .ensures), ne-eqb _ _ (c .before .before .before .before .before .before .before .if1 .left))
-    (c .combine .ensures ∙ rw (c .before .before .before .before .before .credit-at .ensures .is, c .before .credit-at2 .ensures .is))
+    (c .combine .ensures ∙ rw (c .before .before .before .before .before .credit-at .ensures .0, c .before .credit-at2 .ensures .0))
 
 pub held-spec : {M : Type 1} → statement M
 held-spec =

@@ -77,7 +77,7 @@ year-credits-requires c κs =
 upper-years-requires : tie.Need-upper-years-requires
 upper-years-requires c κs =
     let m = monthly-terms _ _ (c .before .before .before .before .before .before .before .before .examine .ensures) (c .before .before .before .before .before .before .if1 .left) (c .before .before .before .before .if3 .left) in
-    (m, λ n. omega (arith, c .year-credits .ensures .most n, m .accepted .under-cap))
+    (m, λ n. omega (arith, c .year-credits .ensures .1 n, m .accepted .under-cap))
 
 fill-requires : tie.Need-fill-requires
 fill-requires c κs =
@@ -88,9 +88,9 @@ fill-requires c κs =
       record {
         none-refused = examined-none _ _ e (c .before .before .before .before .before .before .before .before .if1 .left);
         monthly = m .some-years;
-        lower-is = years-of (c .before .before .before .before .before .before .before .before .before .before .before .before .before .args .t) _ _ (m .lower-is) y;
+        lower-is = years-of (c .before .before .before .before .before .before .before .before .before .before .before .before .before .args .t) _ _ (m .lower-is) (y .0);
         upper-is = u .is;
-        lower-most = λ n. omega (arith, y .most n, m .accepted .under-cap);
+        lower-most = λ n. omega (arith, y .1 n, m .accepted .under-cap);
         upper-most = u .most;
       },
       c .before .before .before .before .before .before .before .if2 .left,

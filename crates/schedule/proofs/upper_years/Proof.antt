@@ -19,8 +19,8 @@ returns-2 c =
     let m = c .before .before .before .before .pre .0 in
     let y = c .year-credits .ensures in
     record {
-      is = λ odd. years-of (c .before .before .before .before .args .t) _ _ (m .upper-is odd) y;
-      most = λ n. omega (arith, y .most n, m .accepted .under-cap);
+      is = λ odd. years-of (c .before .before .before .before .args .t) _ _ (m .upper-is odd) (y .0);
+      most = λ n. omega (arith, y .1 n, m .accepted .under-cap);
     }
 
 pub upper-years-spec : {M : Type 1} → statement M

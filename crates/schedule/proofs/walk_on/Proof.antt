@@ -19,12 +19,12 @@ returns c =
     let l = c .before .after-mark .ensures in
     let u = c .after-mark2 .ensures in
     record {
-      is = rw (c .before .before .step .ensures, l .is, u .is);
+      is = rw (c .before .before .step .ensures, l .0, u .0);
       within = record {
-        lower-month = omega (arith, l .next);
-        lower-small = omega (arith, l .next, l .small);
-        upper-month = omega (arith, u .next);
-        upper-small = omega (arith, u .next, u .small);
+        lower-month = omega (arith, l .1 .0);
+        lower-small = omega (arith, l .1 .0, l .1 .1);
+        upper-month = omega (arith, u .1 .0);
+        upper-small = omega (arith, u .1 .0, u .1 .1);
       };
     }
 

@@ -10,7 +10,7 @@ use borrow.Author.Needs.{needs}
 use Rattle.credit.proofs.Bounds.{credit-most}
 use Rattle.credit.specs.Credit.{creditOver, creditIn}
 use Rattle.years.specs.SoundRates.{purchase}
-use Rattle.years.specs.Promises.{YearCredits}
+use Rattle.years.specs.Years.{yearCredits}
 use Rattle.money.specs.Limits.{unit}
 use Rattle.election.specs.Told.{Accepted}
 use Rattle.terms.specs.declared.Terms.{Terms}
@@ -28,18 +28,18 @@ use Rattle.settlement.proofs.earned.Tie as tie
 
 -- one table's credit, by its row
 worked : (t : Terms) (p : ℕ) (ms row : List ℕ) {years : List ℕ} {k : PensionPence} → row ≡ rowOf (t .option) p (t .age)
-    → YearCredits (purchase row (t .amount / 250) (t .term)) years → k ≡ pension (creditOver nearest years ms)
+    → years ≡ yearCredits nearest (purchase row (t .amount / 250) (t .term)) → k ≡ pension (creditOver nearest years ms)
     → k ≡ pension (creditIn nearest (purchaseIn t p) ms)
 unfolding creditIn
 worked t p ms row e y k = k ∙ rw (years-of t p row e y)
 
-small : (t : Terms) (ms row : List ℕ) {years : List ℕ} {k : PensionPence} → length ms ≤ 240 → Accepted t 0
-    → YearCredits (purchase row (t .amount / 250) (t .term)) years → k ≡ pension (creditOver nearest years ms) → k .0 < 2 ^ 32
-small t ms row {years = years} few a y k =
+small : (t : Terms) (ms years : List ℕ) {k : PensionPence} → length ms ≤ 240 → Accepted t 0
+    → ((n : ℕ) → getD years n 0 ≤ t .amount / 250 * unit) → k ≡ pension (creditOver nearest years ms) → k .0 < 2 ^ 32
+small t ms years few a most k =
     rw k
     (omega (
       arith,
-      credit-most nearest nearest-within-half years (t .amount / 250 * unit) (y .most) ms,
+      credit-most nearest nearest-within-half years (t .amount / 250 * unit) most ms,
       mul-le-mul {n₁ = length ms} {m₁ = t .amount / 250 * unit} {n₂ = 240} {m₂ = 650000} few (omega (arith, a .under-cap)),
     ))
 
@@ -62,7 +62,7 @@ credit-in-requires c κs = search needs
 returns : tie.Need-returns
 returns c =
     let t = c .before .before .before .before .before .before .args .t in
-    only-table t _ (c .if1 .taken) (worked t _ _ _ (c .before .before .before .before .before .before .pre .0 .lower-is) (c .before .before .before .year-credits .ensures) (c .before .before .credit-in .ensures))
+    only-table t _ (c .if1 .taken) (worked t _ _ _ (c .before .before .before .before .before .before .pre .0 .lower-is) (c .before .before .before .year-credits .ensures .0) (c .before .before .credit-in .ensures))
 
 year-credits-requires-2 : tie.Need-year-credits-requires-2
 year-credits-requires-2 c κs =
@@ -76,15 +76,15 @@ combine-requires : tie.Need-combine-requires
 combine-requires c κs =
     let t = c .before .before .before .before .before .before .before .before .args .t in
     let few = c .before .before .before .before .before .before .before .before .pre .1 in
-    (small t _ _ few (c .before .before .before .before .before .before .before .before .pre .0 .accepted) (c .before .before .before .before .before .year-credits .ensures) (c .before .before .before .before .credit-in .ensures), small t _ _ few (c .before .before .before .before .before .before .before .before .pre .0 .accepted) (c .before .year-credits2 .ensures) (c .credit-in2 .ensures))
+    (small t _ _ few (c .before .before .before .before .before .before .before .before .pre .0 .accepted) (c .before .before .before .before .before .year-credits .ensures .1) (c .before .before .before .before .credit-in .ensures), small t _ _ few (c .before .before .before .before .before .before .before .before .pre .0 .accepted) (c .before .year-credits2 .ensures .1) (c .credit-in2 .ensures))
 
 returns-2 : tie.Need-returns-2
 returns-2 c =
     let t = c .before .before .before .before .before .before .before .before .before .args .t in
     let m = c .before .before .before .before .before .before .before .before .before .pre .0 in
     c .combine .ensures
-    ∙ both t _ (worked t _ _ _ (m .lower-is) (c .before .before .before .before .before .before .year-credits .ensures) (c .before .before .before .before .before .credit-in .ensures))
-    (worked t _ _ _ (m .upper-is (c .before .before .before .if1 .left)) (c .before .before .year-credits2 .ensures) (c .before .credit-in2 .ensures))
+    ∙ both t _ (worked t _ _ _ (m .lower-is) (c .before .before .before .before .before .before .year-credits .ensures .0) (c .before .before .before .before .before .credit-in .ensures))
+    (worked t _ _ _ (m .upper-is (c .before .before .before .if1 .left)) (c .before .before .year-credits2 .ensures .0) (c .before .credit-in2 .ensures))
 
 pub earned-spec : {M : Type 1} → statement M
 earned-spec =

@@ -131,7 +131,7 @@ returns c =
     let p = purchase (a .rates) (a .units) (a .term) in
     let is = filled p (w .years) (w .n) (omega arith) (w .inv .2) (w .inv .3) (w .inv .4) in
     let priced = c .before .before .before .before .pre in
-    record { is = is; most = λ n. rw is (years-most nearest nearest-within-half p (priced .term-most) (priced .falling) n) }
+    (is, λ n. rw is (years-most nearest nearest-within-half p (priced .term-most) (priced .falling) n))
 
 pub year-credits-spec : {M : Type 1} → statement M
 year-credits-spec =
