@@ -1,5 +1,5 @@
 // The documents' figures and every operation at its edges, one to a line: what is asked, then what the part gives, money in pence.
-// The figures that are marked as proved are rows of specs/Rows.antt; the file stdout holds what the others must be.
+// The figures that are marked as proved are rows of crate `rows`; the file stdout holds what the others must be.
 mod cases;
 mod elapsed;
 mod line;
