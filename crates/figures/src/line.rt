@@ -30,6 +30,15 @@ pub fn entries(list: &[u32]) {
     }
 }
 
+// The answer's number at an index. Gives the index of the one after it.
+fn answer_at(answer: [u64; 6], i: usize) -> usize {
+    if i < 6 {
+        number(answer[i]);
+        return i + 1;
+    }
+    i
+}
+
 // A form: `*` in it stands for what is asked, each `#` for the next number of the answer.
 pub fn filled(form: &[u8], asked: &[u64], answer: [u64; 6]) {
     let mut given = 0;
@@ -40,18 +49,9 @@ pub fn filled(form: &[u8], asked: &[u64], answer: [u64; 6]) {
         if b == b'*' {
             numbers(asked);
         } else if b == b'#' {
-            given = next(answer, given);
+            given = answer_at(answer, given);
         } else {
             text(&[b]);
         }
     }
-}
-
-// The number at an index, and the index after it.
-fn next(answer: [u64; 6], i: usize) -> usize {
-    if i < 6 {
-        number(answer[i]);
-        return i + 1;
-    }
-    i
 }

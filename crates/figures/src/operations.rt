@@ -164,7 +164,7 @@ fn print_row(row: &[u64]) {
     }
 }
 
-// Where a row ends that starts after its operation; the end of the table for one that would pass it.
+// Where a row ends: so many columns after its operation, and no further than the table.
 fn row_end(from: usize, columns: u64, end: usize) -> usize
     requires { ⌜ from < end ⌝ }
     ensures { λ r. ⌜ (from < r) × (r ≤ end) ⌝ }

@@ -30,8 +30,8 @@ loop-less c = search needs
 loop-again : tie.Need-loop-again Inv-loop μ-loop
 loop-again c = search needs
 
-next-requires : tie.Need-next-requires Inv-loop μ-loop
-next-requires c κs = search needs
+answer-at-requires : tie.Need-answer-at-requires Inv-loop μ-loop
+answer-at-requires c κs = search needs
 
 loop-less-2 : tie.Need-loop-less-2 Inv-loop μ-loop
 loop-less-2 c = search needs
@@ -66,7 +66,7 @@ filled-spec =
     numbers-requires
     loop-less
     loop-again
-    next-requires
+    answer-at-requires
     loop-less-2
     loop-again-2
     slice-aggregate-text
