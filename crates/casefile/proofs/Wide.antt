@@ -10,7 +10,7 @@ use Rattle.text.specs.declared.Field.the-variants.{Number}
 use Rattle.text.specs.Field.{fieldOf}
 use Rattle.text.specs.Column.{columnOf}
 use Rattle.text.proofs.ReadBack.{column-read, field-below}
-use Rattle.election.specs.declared.Terms.{Terms}
+use Rattle.terms.specs.declared.Terms.{Terms}
 use Rattle.settlement.specs.Settle.{SettleNumbers, settleOf}
 use Rattle.settlement.proofs.Bounds.{settle-bounds}
 use Rattle.casefile.specs.Shape.{columns}

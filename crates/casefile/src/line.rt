@@ -6,7 +6,7 @@ ghost use Rattle.settlement.specs.Settle.{numbersOf};
 ghost use Rattle.casefile.specs.Shape.{fieldsOf};
 ghost use Rattle.casefile.specs.Line.{listedAs, wrongShape, lineOf};
 ghost use Rattle.casefile.specs.Told.{MarksTold, figuresOf};
-use election::Terms;
+use terms::Terms;
 use settlement::Settlement;
 use text::Field;
 

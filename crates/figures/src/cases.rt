@@ -1,188 +1,192 @@
 // What is asked, a row to a line. The rows are laid out by hand: the formatter would set one number to a line.
 //
-// Terms are seven columns: age, pension age in years and months, option, payer, term, amount.
-// Marks are eight: four runs, each a mark and its number of months.
+// A row starts with its operation, told by the number of columns that follow. Terms are seven columns: age, pension age in years and
+// months, option, payer, term, amount. Marks are eight: four runs, each a mark and its number of months.
+
+// Existing pension in pence.
+const CAP_DECISION: u64 = 1;
+
+// The figure to be divided, the divisor.
+const NEAREST: u64 = 2;
+
+// Twelfths, the lower figure, the upper one.
+const BLEND: u64 = 3;
+
+// Option, pension age, age, term.
+const RATE: u64 = 4;
 
 // Terms, existing pension in pence, last quote number.
-pub const EXAMPLES: [u64; 36] = [
-    40, 67, 0, 1, 1,  0, 2000, 0, 0, // example 1
-    31, 68, 0, 2, 1, 10, 1750, 0, 1, // example 2
-    32, 68, 0, 2, 1, 10, 1750, 0, 2, // example 3
-    54, 66, 5, 2, 1, 10, 1750, 0, 3, // example 4
-];
-
-// Existing pension in pence: the two values that example 5 takes off.
-pub const HEADROOM: [u64; 1] = [112100];
+const QUOTE: u64 = 9;
 
 // Terms, marks.
-pub const CREDITS: [u64; 165] = [
-    40, 67, 0, 2, 1, 9, 1250, 1, 60, 2,  1, 0,  0, 0, 0, // A1: notice after five years
-    46, 67, 0, 2, 1, 9, 1250, 1, 61, 2,  1, 0,  0, 0, 0, // A2: notice a month later
-    50, 67, 0, 2, 1, 9, 1250, 1,  5, 0,  0, 0,  0, 0, 0, // A3: five months paid
-    50, 67, 0, 2, 1, 9, 1250, 1,  5, 0,  7, 0,  0, 0, 0, // A3: then a gap that is open
-    50, 67, 0, 2, 1, 9, 1250, 1,  5, 0, 12, 0,  0, 0, 0, // A3: and one that is too long
-    50, 67, 0, 2, 1, 9, 1250, 1,  5, 2,  1, 0,  0, 0, 0, // A3: or notice
-    54, 67, 0, 1, 1, 4, 1000, 1, 19, 0,  0, 0,  0, 0, 0, // A4: before the gap
-    54, 67, 0, 1, 1, 4, 1000, 1, 19, 0,  8, 0,  0, 0, 0, // A4: in it
-    54, 67, 0, 1, 1, 4, 1000, 1, 19, 0,  8, 1,  1, 0, 0, // A4: a month after it
-    54, 67, 0, 1, 1, 4, 1000, 1, 19, 0,  8, 1, 12, 0, 0, // A4: twelve months after it
-    54, 67, 0, 1, 1, 4, 1000, 1, 19, 0,  8, 1, 21, 0, 0, // A4: paid to the end of the term
+const SETTLE: u64 = 15;
+
+// Terms, marks, entries of the lent list.
+const SCHEDULE: u64 = 16;
+
+// The worked examples of document 000, its headroom, and its examples A1 to A4.
+pub const DOCUMENT_000: [u64; 218] = [
+    QUOTE, 40, 67, 0, 1, 1,  0, 2000, 0, 0, // example 1
+    QUOTE, 31, 68, 0, 2, 1, 10, 1750, 0, 1, // example 2
+    QUOTE, 32, 68, 0, 2, 1, 10, 1750, 0, 2, // example 3
+    QUOTE, 54, 66, 5, 2, 1, 10, 1750, 0, 3, // example 4
+    // example 5: the two values that it takes off
+    CAP_DECISION, 112100,
+    SETTLE, 40, 67, 0, 2, 1, 9, 1250, 1, 60, 2,  1, 0,  0, 0, 0, // A1: notice after five years
+    SETTLE, 46, 67, 0, 2, 1, 9, 1250, 1, 61, 2,  1, 0,  0, 0, 0, // A2: notice a month later
+    SETTLE, 50, 67, 0, 2, 1, 9, 1250, 1,  5, 0,  0, 0,  0, 0, 0, // A3: five months paid
+    SETTLE, 50, 67, 0, 2, 1, 9, 1250, 1,  5, 0,  7, 0,  0, 0, 0, // A3: then a gap that is open
+    SETTLE, 50, 67, 0, 2, 1, 9, 1250, 1,  5, 0, 12, 0,  0, 0, 0, // A3: and one that is too long
+    SETTLE, 50, 67, 0, 2, 1, 9, 1250, 1,  5, 2,  1, 0,  0, 0, 0, // A3: or notice
+    SETTLE, 54, 67, 0, 1, 1, 4, 1000, 1, 19, 0,  0, 0,  0, 0, 0, // A4: before the gap
+    SETTLE, 54, 67, 0, 1, 1, 4, 1000, 1, 19, 0,  8, 0,  0, 0, 0, // A4: in it
+    SETTLE, 54, 67, 0, 1, 1, 4, 1000, 1, 19, 0,  8, 1,  1, 0, 0, // A4: a month after it
+    SETTLE, 54, 67, 0, 1, 1, 4, 1000, 1, 19, 0,  8, 1, 12, 0, 0, // A4: twelve months after it
+    SETTLE, 54, 67, 0, 1, 1, 4, 1000, 1, 19, 0,  8, 1, 21, 0, 0, // A4: paid to the end of the term
 ];
 
 // Document 001's working, with the rates that it prints: £1,500, six times £250, over 4 years, of which nine months are paid.
-// Contribution times £250, the rate for one year.
-pub const FIRST_YEARS: [u64; 4] = [
-    1333500000, 32940, // 533.40, at 66
-    1264500000, 31240, // 505.80, at 67
+pub const DOCUMENT_001: [u64; 54] = [
+    // contribution times £250, and the rate for one year
+    NEAREST, 1333500000, 32940, // 533.40, at 66
+    NEAREST, 1264500000, 31240, // 505.80, at 67
+    BLEND, 5, 53340, 50580, // the contribution
+    BLEND, 9,     0, 40483, // nine months at 66
+    BLEND, 9,     0, 40477, // nine months at 67
+    BLEND, 5, 30362, 30358, // the credit
+    // its contract after nine months, and with notice after twelve
+    SETTLE, 60, 66, 5, 1, 1, 4, 1500, 1,  9, 0, 0, 0, 0, 0, 0,
+    SETTLE, 60, 66, 5, 1, 1, 4, 1500, 1, 12, 2, 1, 0, 0, 0, 0,
 ];
 
-// Twelfths, the lower figure, the upper one.
-pub const BLENDS: [u64; 12] = [
-    5, 53340, 50580, // the contribution
-    9,     0, 40483, // nine months at 66
-    9,     0, 40477, // nine months at 67
-    5, 30362, 30358, // the credit
+// The rates that document 01's figures go by.
+pub const DOCUMENT_01: [u64; 50] = [
+    RATE, 2, 67, 50, 1,
+    RATE, 2, 67, 50, 9,
+    RATE, 2, 65, 50, 1,
+    RATE, 2, 65, 50, 2,
+    RATE, 2, 65, 50, 3,
+    RATE, 2, 65, 50, 4,
+    RATE, 2, 65, 50, 5,
+    RATE, 2, 65, 63, 1,
+    RATE, 2, 65, 63, 2, // none is printed
+    RATE, 2, 65, 64, 1, // none is printed
 ];
 
-// Terms, marks: document 001's contract after nine months, and with notice after twelve.
-pub const ODD_MONTHS: [u64; 30] = [
-    60, 66, 5, 1, 1, 4, 1500, 1,  9, 0, 0, 0, 0, 0, 0,
-    60, 66, 5, 1, 1, 4, 1500, 1, 12, 2, 1, 0, 0, 0, 0,
-];
-
-// Option, pension age, age, term.
-pub const RATES: [u64; 40] = [
-    2, 67, 50, 1,
-    2, 67, 50, 9,
-    2, 65, 50, 1,
-    2, 65, 50, 2,
-    2, 65, 50, 3,
-    2, 65, 50, 4,
-    2, 65, 50, 5,
-    2, 65, 63, 1,
-    2, 65, 63, 2, // none is printed
-    2, 65, 64, 1, // none is printed
-];
-
-// Terms, existing pension in pence, last quote number.
-pub const QUOTES: [u64; 351] = [
-    50, 65,  0, 2, 1,  5, 1000,      0,      0, // monthly
-    40, 67,  0, 1, 2,  0, 2000,      0,      1, // an employer's lump sum
-    54, 66,  5, 2, 1,  0,  250,      0,      2, // a lump sum with odd months
-    50, 67, 11, 2, 1,  9, 1250,      0,      3, // the latest odd month
-    31, 68,  0, 2, 1, 20,  250,      0,      4, // the latest pension age
-    64, 65,  0, 2, 1,  0, 6500,      0,      5, // the greatest amount
-    50, 65,  0, 0, 1,  5, 1000,      0,     41, // 1
-    50, 65,  0, 3, 1,  5, 1000,      0,     41, // 1
-    50, 64, 11, 2, 1,  5, 1000,      0,     41, // 2
-    50, 66, 12, 2, 1,  5, 1000,      0,     41, // 2
-    50, 68,  1, 2, 1,  5, 1000,      0,     41, // 2
-    50, 69,  0, 2, 1,  5, 1000,      0,     41, // 2
-    30, 65,  0, 2, 1, 21, 1000,      0,     41, // 3
-    50, 65,  0, 2, 0,  5, 1000,      0,     41, // 4
-    50, 65,  0, 2, 3,  0, 1000,      0,     41, // 4
-    50, 65,  0, 2, 2,  5, 1000,      0,     41, // 4: an employer's monthly payments
-    15, 65,  0, 2, 1,  5, 1000,      0,     41, // 5
-    16, 65,  0, 2, 1,  5, 1000,      0,     41, // the lowest age
-    15, 65,  0, 2, 1,  0, 1000,      0,     41, // 5: lump sum
-    65, 68,  0, 2, 1,  0, 1000,      0,     41, // 5: lump sum
-    63, 65,  0, 2, 1,  1, 1000,      0,     41, // the last rate of D65
-    63, 65,  0, 2, 1,  2, 1000,      0,     41, // 5
-    64, 65,  0, 2, 1,  1, 1000,      0,     41, // 5
-    64, 65,  1, 2, 1,  1, 1000,      0,     41, // 5: the upper table alone has a rate
-    50, 65,  0, 2, 1,  5,    0,      0,     41, // 7
-    50, 65,  0, 2, 1,  5,  249,      0,     41, // 7
-    50, 65,  0, 2, 1,  5, 1100,      0,     41, // 7
-    50, 65,  0, 2, 1,  5, 6600,      0,     41, // 7, and above the cap
-    50, 65,  0, 2, 1,  5, 6750,      0,     41, // 8
-    50, 65,  0, 2, 1,  5, 1000, 550000,     41, // at the cap
-    50, 65,  0, 2, 1,  5, 1000, 550001,     41, // 8: a penny above it
-    50, 65,  0, 2, 1,  5, 1000, 18446744073709551615, 41, // 8
-    50, 67,  0, 2, 1,  9, 5250, 112100,     41, // example 5's headroom
-    50, 67,  0, 2, 1,  9, 5500, 112100,     41, // 8
-    50, 65,  0, 2, 1,  5, 1000,      0, 999998, // the last number there is
-    50, 65,  0, 2, 1,  5, 1000,      0, 999999, // 9
-    50, 65,  0, 2, 1,  5, 1000,      0, 4294967295, // 9
-    50, 65,  0, 2, 1,  5, 1000, 550001, 999999, // 8 before 9
-     0,  0, 12, 0, 0, 21,    1, 650001, 999999, // 1 before all
-];
-
-// Existing pension in pence.
-pub const CAP_DECISIONS: [u64; 8] = [
-    0, 1, 25000, 625000, 625001, 650000, 650001, 18446744073709551615,
-];
-
-// Terms, marks.
-pub const SETTLEMENTS: [u64; 750] = [
-    50, 65,  0, 3, 1,  5, 1000,   0, 256,  0,  0,  0,  0, 0, 0, // 1, before the marks
-    50, 66, 12, 2, 1,  5, 1000,   0, 256,  0,  0,  0,  0, 0, 0, // 2
-    50, 68,  1, 2, 1,  5, 1000,   0,   0,  0,  0,  0,  0, 0, 0, // 2
-    30, 65,  0, 2, 1, 21, 1000,   0, 256,  0,  0,  0,  0, 0, 0, // 3
-    50, 65,  0, 2, 3,  5, 1000,   0, 256,  0,  0,  0,  0, 0, 0, // 4
-    50, 65,  0, 2, 2,  5, 1000,   0, 256,  0,  0,  0,  0, 0, 0, // 4: an employer's monthly payments
-    64, 65,  0, 2, 1,  1, 1000,   0, 256,  0,  0,  0,  0, 0, 0, // 5
-    65, 68,  0, 2, 1,  0, 1000,   0, 256,  0,  0,  0,  0, 0, 0, // 5: lump sum
-    50, 65,  0, 2, 1,  5,    0,   0,   0,  0,  0,  0,  0, 0, 0, // 7
-    50, 65,  0, 2, 1,  5, 1100,   0,   0,  0,  0,  0,  0, 0, 0, // 7
-    50, 65,  0, 2, 1,  5, 1100,   3,   1,  0,  0,  0,  0, 0, 0, // 7, before the marks
-    50, 65,  0, 2, 1,  5, 6750,   1,  60,  0,  0,  0,  0, 0, 0, // 8
-    50, 65,  0, 2, 1,  5, 1000,   1,  61,  0,  0,  0,  0, 0, 0, // 10
-    50, 65,  0, 2, 1,  5, 1000,   3,  61,  0,  0,  0,  0, 0, 0, // 10, before any mark is looked at
-    40, 65,  0, 2, 1, 20, 1000,   1, 241,  0,  0,  0,  0, 0, 0, // 10
-    40, 67,  0, 1, 1,  0, 2000,   1,   1,  0,  0,  0,  0, 0, 0, // 10: a lump sum takes no mark
-    50, 65,  0, 2, 1,  5, 1000,   3,   1,  0,  0,  0,  0, 0, 0, // 11
-    50, 65,  0, 2, 1,  5, 1000,   1,   3,  3,  1,  0,  0, 0, 0, // 11
-    50, 65,  0, 2, 1,  5, 1000,   1,  59, 255, 1,  0,  0, 0, 0, // 11
-    50, 65,  0, 2, 1,  5, 1000,   1,   5,  2,  1,  3,  1, 0, 0, // 11 before 12 at one place
-    50, 65,  0, 2, 1,  5, 1000,   0,   1,  3,  1,  0,  0, 0, 0, // 12: the leftmost decides
-    50, 65,  0, 2, 1,  5, 1000,   1,   5,  2,  1,  1,  1, 0, 0, // 12: paid after the end
-    50, 65,  0, 2, 1,  5, 1000,   1,   5,  2,  1,  0,  1, 0, 0, // 12: missed after the end
-    50, 65,  0, 2, 1,  5, 1000,   1,   6,  0, 13,  1,  1, 0, 0, // 12: paid after too long a gap
-    50, 65,  0, 2, 1,  5, 1000,   0,   0,  0,  0,  0,  0, 0, 0, // status 0
-    50, 65,  0, 2, 1,  5, 1000,   1,   1,  0,  0,  0,  0, 0, 0, // status 1
-    50, 65,  0, 2, 1,  5, 1000,   1,  59,  0,  0,  0,  0, 0, 0,
-    50, 65,  0, 2, 1,  5, 1000,   1,   1,  0, 11,  1,  1, 0, 0,
-    54, 66,  5, 2, 1, 10, 1750,   1,  30,  0,  0,  0,  0, 0, 0, // both tables
-    50, 65,  0, 2, 1,  5, 1000,   1,   1,  0,  1,  0,  0, 0, 0, // status 2
-    50, 65,  0, 2, 1,  5, 1000,   1,  18,  0, 11,  0,  0, 0, 0,
-    50, 65,  0, 2, 1,  5, 1000,   1,  60,  0,  0,  0,  0, 0, 0, // status 3
-    50, 65,  0, 2, 1,  5, 6500,   1,  60,  0,  0,  0,  0, 0, 0,
-    40, 65,  0, 2, 1, 20, 1000,   1, 240,  0,  0,  0,  0, 0, 0,
-    54, 66,  5, 2, 1, 10, 1750,   1, 120,  0,  0,  0,  0, 0, 0,
-    50, 65,  0, 2, 1,  5, 1000,   1,  59,  0,  1,  0,  0, 0, 0, // status 4: the term is over
-    50, 65,  0, 2, 1,  5, 1000,   1,  12,  0,  1,  1, 47, 0, 0,
-    50, 65,  0, 2, 1,  1, 1000,   1,   1,  0, 10,  1,  1, 0, 0,
-    50, 65,  0, 2, 1,  5, 1000,   1,  12,  0, 12,  0,  0, 0, 0, // status 4: the gap is too long
-    50, 65,  0, 2, 1,  5, 1000,   1,  12,  0, 12,  2,  1, 0, 0,
-    50, 65,  0, 2, 1,  5, 1000,   1,  18,  2, 42,  0,  0, 0, 0, // status 4: notice
-    50, 65,  0, 2, 1,  5, 1000,   1,   5,  0,  2,  1,  5, 2, 1, // twelve months up to the last paid one
-    54, 66,  5, 2, 1, 10, 1750,   1,  30,  2,  1,  0,  0, 0, 0,
-    50, 65,  0, 2, 1,  5, 1000,   1,   5,  0,  1,  1,  5, 2, 1, // status 5: eleven of them, ten paid
-    50, 65,  0, 2, 1,  5, 1000,   1,  11,  0, 12,  0,  0, 0, 0,
-    50, 65,  0, 2, 1,  5, 1000,   2,  60,  0,  0,  0,  0, 0, 0,
-    50, 65,  0, 2, 1,  1, 1000,   1,   1,  0, 11,  0,  0, 0, 0, // the term is over
-    54, 66,  5, 2, 1, 10, 1750,   1,  11,  2,  1,  0,  0, 0, 0,
-    40, 67,  0, 1, 1,  0, 2000,   0,   0,  0,  0,  0,  0, 0, 0, // status 6
-    54, 66,  5, 2, 2,  0,  250,   0,   0,  0,  0,  0,  0, 0, 0,
-];
-
-// Terms, marks, entries of the lent list.
-pub const SCHEDULES: [u64; 272] = [
-    50, 65, 0, 2, 1,  2, 1000, 1, 11, 0, 2, 1, 3, 0, 0, 18, // a gap over the end of a year
-    54, 66, 5, 2, 1, 10, 1750, 1,  2, 0, 1, 1, 2, 0, 0,  7, // both tables
-    50, 65, 0, 2, 1,  5, 1000, 1,  3, 0, 0, 0, 0, 0, 0,  3, // as many entries as marks
-    50, 65, 0, 2, 1,  5, 1000, 1,  3, 2, 2, 0, 0, 0, 0,  6, // an early end
-    50, 65, 0, 2, 1,  5, 1000, 1, 12, 2, 2, 0, 0, 0, 0, 15, // a later one
-    50, 65, 0, 2, 1,  1, 1000, 1,  3, 0, 9, 0, 0, 0, 0, 13, // a term that runs out in a gap
-    50, 65, 0, 2, 1,  5, 1000, 0,  0, 0, 0, 0, 0, 0, 0,  2, // no marks
-    50, 65, 0, 2, 1,  5, 1000, 0,  0, 0, 0, 0, 0, 0, 0,  0,
-    40, 67, 0, 1, 1,  0, 2000, 0,  0, 0, 0, 0, 0, 0, 0,  2, // lump sum
-    50, 65, 0, 2, 1,  5, 1000, 1,  5, 0, 0, 0, 0, 0, 0,  4, // 14
-    50, 65, 0, 2, 1,  5, 1000, 1,  1, 0, 0, 0, 0, 0, 0,  0, // 14
-    50, 65, 0, 2, 1,  5, 1000, 1,  2, 3, 1, 0, 0, 0, 0,  2, // 11 before 14
-    50, 65, 0, 2, 1,  5, 1000, 1,  2, 3, 1, 0, 0, 0, 0,  5, // 11
-    50, 65, 0, 2, 1,  5, 1000, 0,  1, 0, 0, 0, 0, 0, 0,  5, // 12
-    50, 65, 0, 2, 1,  5, 1000, 1,  2, 2, 1, 1, 1, 0, 0,  5, // 12
-    50, 65, 0, 2, 1,  5, 1000, 1, 61, 0, 0, 0, 0, 0, 0,  5, // 10
-    50, 65, 0, 3, 1,  5, 1000, 1,  1, 0, 0, 0, 0, 0, 0,  5, // 1
+// Every operation at its edges. A remark that starts with a number names the refusal.
+pub const EDGES: [u64; 1495] = [
+    CAP_DECISION, 0,
+    CAP_DECISION, 1,
+    CAP_DECISION, 25000,
+    CAP_DECISION, 625000,
+    CAP_DECISION, 625001,
+    CAP_DECISION, 650000,
+    CAP_DECISION, 650001,
+    CAP_DECISION, 18446744073709551615,
+    QUOTE, 50, 65,  0, 2, 1,  5, 1000,      0,      0, // monthly
+    QUOTE, 40, 67,  0, 1, 2,  0, 2000,      0,      1, // an employer's lump sum
+    QUOTE, 54, 66,  5, 2, 1,  0,  250,      0,      2, // a lump sum with odd months
+    QUOTE, 50, 67, 11, 2, 1,  9, 1250,      0,      3, // the latest odd month
+    QUOTE, 31, 68,  0, 2, 1, 20,  250,      0,      4, // the latest pension age
+    QUOTE, 64, 65,  0, 2, 1,  0, 6500,      0,      5, // the greatest amount
+    QUOTE, 50, 65,  0, 0, 1,  5, 1000,      0,     41, // 1
+    QUOTE, 50, 65,  0, 3, 1,  5, 1000,      0,     41, // 1
+    QUOTE, 50, 64, 11, 2, 1,  5, 1000,      0,     41, // 2
+    QUOTE, 50, 66, 12, 2, 1,  5, 1000,      0,     41, // 2
+    QUOTE, 50, 68,  1, 2, 1,  5, 1000,      0,     41, // 2
+    QUOTE, 50, 69,  0, 2, 1,  5, 1000,      0,     41, // 2
+    QUOTE, 30, 65,  0, 2, 1, 21, 1000,      0,     41, // 3
+    QUOTE, 50, 65,  0, 2, 0,  5, 1000,      0,     41, // 4
+    QUOTE, 50, 65,  0, 2, 3,  0, 1000,      0,     41, // 4
+    QUOTE, 50, 65,  0, 2, 2,  5, 1000,      0,     41, // 4: an employer's monthly payments
+    QUOTE, 15, 65,  0, 2, 1,  5, 1000,      0,     41, // 5
+    QUOTE, 16, 65,  0, 2, 1,  5, 1000,      0,     41, // the lowest age
+    QUOTE, 15, 65,  0, 2, 1,  0, 1000,      0,     41, // 5: lump sum
+    QUOTE, 65, 68,  0, 2, 1,  0, 1000,      0,     41, // 5: lump sum
+    QUOTE, 63, 65,  0, 2, 1,  1, 1000,      0,     41, // the last rate of D65
+    QUOTE, 63, 65,  0, 2, 1,  2, 1000,      0,     41, // 5
+    QUOTE, 64, 65,  0, 2, 1,  1, 1000,      0,     41, // 5
+    QUOTE, 64, 65,  1, 2, 1,  1, 1000,      0,     41, // 5: the upper table alone has a rate
+    QUOTE, 50, 65,  0, 2, 1,  5,    0,      0,     41, // 7
+    QUOTE, 50, 65,  0, 2, 1,  5,  249,      0,     41, // 7
+    QUOTE, 50, 65,  0, 2, 1,  5, 1100,      0,     41, // 7
+    QUOTE, 50, 65,  0, 2, 1,  5, 6600,      0,     41, // 7, and above the cap
+    QUOTE, 50, 65,  0, 2, 1,  5, 6750,      0,     41, // 8
+    QUOTE, 50, 65,  0, 2, 1,  5, 1000, 550000,     41, // at the cap
+    QUOTE, 50, 65,  0, 2, 1,  5, 1000, 550001,     41, // 8: a penny above it
+    QUOTE, 50, 65,  0, 2, 1,  5, 1000, 18446744073709551615, 41, // 8
+    QUOTE, 50, 67,  0, 2, 1,  9, 5250, 112100,     41, // example 5's headroom
+    QUOTE, 50, 67,  0, 2, 1,  9, 5500, 112100,     41, // 8
+    QUOTE, 50, 65,  0, 2, 1,  5, 1000,      0, 999998, // the last number there is
+    QUOTE, 50, 65,  0, 2, 1,  5, 1000,      0, 999999, // 9
+    QUOTE, 50, 65,  0, 2, 1,  5, 1000,      0, 4294967295, // 9
+    QUOTE, 50, 65,  0, 2, 1,  5, 1000, 550001, 999999, // 8 before 9
+    QUOTE,  0,  0, 12, 0, 0, 21,    1, 650001, 999999, // 1 before all
+    SETTLE, 50, 65,  0, 3, 1,  5, 1000,   0, 256,  0,  0,  0,  0, 0, 0, // 1, before the marks
+    SETTLE, 50, 66, 12, 2, 1,  5, 1000,   0, 256,  0,  0,  0,  0, 0, 0, // 2
+    SETTLE, 50, 68,  1, 2, 1,  5, 1000,   0,   0,  0,  0,  0,  0, 0, 0, // 2
+    SETTLE, 30, 65,  0, 2, 1, 21, 1000,   0, 256,  0,  0,  0,  0, 0, 0, // 3
+    SETTLE, 50, 65,  0, 2, 3,  5, 1000,   0, 256,  0,  0,  0,  0, 0, 0, // 4
+    SETTLE, 50, 65,  0, 2, 2,  5, 1000,   0, 256,  0,  0,  0,  0, 0, 0, // 4: an employer's monthly payments
+    SETTLE, 64, 65,  0, 2, 1,  1, 1000,   0, 256,  0,  0,  0,  0, 0, 0, // 5
+    SETTLE, 65, 68,  0, 2, 1,  0, 1000,   0, 256,  0,  0,  0,  0, 0, 0, // 5: lump sum
+    SETTLE, 50, 65,  0, 2, 1,  5,    0,   0,   0,  0,  0,  0,  0, 0, 0, // 7
+    SETTLE, 50, 65,  0, 2, 1,  5, 1100,   0,   0,  0,  0,  0,  0, 0, 0, // 7
+    SETTLE, 50, 65,  0, 2, 1,  5, 1100,   3,   1,  0,  0,  0,  0, 0, 0, // 7, before the marks
+    SETTLE, 50, 65,  0, 2, 1,  5, 6750,   1,  60,  0,  0,  0,  0, 0, 0, // 8
+    SETTLE, 50, 65,  0, 2, 1,  5, 1000,   1,  61,  0,  0,  0,  0, 0, 0, // 10
+    SETTLE, 50, 65,  0, 2, 1,  5, 1000,   3,  61,  0,  0,  0,  0, 0, 0, // 10, before any mark is looked at
+    SETTLE, 40, 65,  0, 2, 1, 20, 1000,   1, 241,  0,  0,  0,  0, 0, 0, // 10
+    SETTLE, 40, 67,  0, 1, 1,  0, 2000,   1,   1,  0,  0,  0,  0, 0, 0, // 10: a lump sum takes no mark
+    SETTLE, 50, 65,  0, 2, 1,  5, 1000,   3,   1,  0,  0,  0,  0, 0, 0, // 11
+    SETTLE, 50, 65,  0, 2, 1,  5, 1000,   1,   3,  3,  1,  0,  0, 0, 0, // 11
+    SETTLE, 50, 65,  0, 2, 1,  5, 1000,   1,  59, 255, 1,  0,  0, 0, 0, // 11
+    SETTLE, 50, 65,  0, 2, 1,  5, 1000,   1,   5,  2,  1,  3,  1, 0, 0, // 11 before 12 at one place
+    SETTLE, 50, 65,  0, 2, 1,  5, 1000,   0,   1,  3,  1,  0,  0, 0, 0, // 12: the leftmost decides
+    SETTLE, 50, 65,  0, 2, 1,  5, 1000,   1,   5,  2,  1,  1,  1, 0, 0, // 12: paid after the end
+    SETTLE, 50, 65,  0, 2, 1,  5, 1000,   1,   5,  2,  1,  0,  1, 0, 0, // 12: missed after the end
+    SETTLE, 50, 65,  0, 2, 1,  5, 1000,   1,   6,  0, 13,  1,  1, 0, 0, // 12: paid after too long a gap
+    SETTLE, 50, 65,  0, 2, 1,  5, 1000,   0,   0,  0,  0,  0,  0, 0, 0, // status 0
+    SETTLE, 50, 65,  0, 2, 1,  5, 1000,   1,   1,  0,  0,  0,  0, 0, 0, // status 1
+    SETTLE, 50, 65,  0, 2, 1,  5, 1000,   1,  59,  0,  0,  0,  0, 0, 0,
+    SETTLE, 50, 65,  0, 2, 1,  5, 1000,   1,   1,  0, 11,  1,  1, 0, 0,
+    SETTLE, 54, 66,  5, 2, 1, 10, 1750,   1,  30,  0,  0,  0,  0, 0, 0, // both tables
+    SETTLE, 50, 65,  0, 2, 1,  5, 1000,   1,   1,  0,  1,  0,  0, 0, 0, // status 2
+    SETTLE, 50, 65,  0, 2, 1,  5, 1000,   1,  18,  0, 11,  0,  0, 0, 0,
+    SETTLE, 50, 65,  0, 2, 1,  5, 1000,   1,  60,  0,  0,  0,  0, 0, 0, // status 3
+    SETTLE, 50, 65,  0, 2, 1,  5, 6500,   1,  60,  0,  0,  0,  0, 0, 0,
+    SETTLE, 40, 65,  0, 2, 1, 20, 1000,   1, 240,  0,  0,  0,  0, 0, 0,
+    SETTLE, 54, 66,  5, 2, 1, 10, 1750,   1, 120,  0,  0,  0,  0, 0, 0,
+    SETTLE, 50, 65,  0, 2, 1,  5, 1000,   1,  59,  0,  1,  0,  0, 0, 0, // status 4: the term is over
+    SETTLE, 50, 65,  0, 2, 1,  5, 1000,   1,  12,  0,  1,  1, 47, 0, 0,
+    SETTLE, 50, 65,  0, 2, 1,  1, 1000,   1,   1,  0, 10,  1,  1, 0, 0,
+    SETTLE, 50, 65,  0, 2, 1,  5, 1000,   1,  12,  0, 12,  0,  0, 0, 0, // status 4: the gap is too long
+    SETTLE, 50, 65,  0, 2, 1,  5, 1000,   1,  12,  0, 12,  2,  1, 0, 0,
+    SETTLE, 50, 65,  0, 2, 1,  5, 1000,   1,  18,  2, 42,  0,  0, 0, 0, // status 4: notice
+    SETTLE, 50, 65,  0, 2, 1,  5, 1000,   1,   5,  0,  2,  1,  5, 2, 1, // twelve months up to the last paid one
+    SETTLE, 54, 66,  5, 2, 1, 10, 1750,   1,  30,  2,  1,  0,  0, 0, 0,
+    SETTLE, 50, 65,  0, 2, 1,  5, 1000,   1,   5,  0,  1,  1,  5, 2, 1, // status 5: eleven of them, ten paid
+    SETTLE, 50, 65,  0, 2, 1,  5, 1000,   1,  11,  0, 12,  0,  0, 0, 0,
+    SETTLE, 50, 65,  0, 2, 1,  5, 1000,   2,  60,  0,  0,  0,  0, 0, 0,
+    SETTLE, 50, 65,  0, 2, 1,  1, 1000,   1,   1,  0, 11,  0,  0, 0, 0, // the term is over
+    SETTLE, 54, 66,  5, 2, 1, 10, 1750,   1,  11,  2,  1,  0,  0, 0, 0,
+    SETTLE, 40, 67,  0, 1, 1,  0, 2000,   0,   0,  0,  0,  0,  0, 0, 0, // status 6
+    SETTLE, 54, 66,  5, 2, 2,  0,  250,   0,   0,  0,  0,  0,  0, 0, 0,
+    SCHEDULE, 50, 65, 0, 2, 1,  2, 1000, 1, 11, 0, 2, 1, 3, 0, 0, 18, // a gap over the end of a year
+    SCHEDULE, 54, 66, 5, 2, 1, 10, 1750, 1,  2, 0, 1, 1, 2, 0, 0,  7, // both tables
+    SCHEDULE, 50, 65, 0, 2, 1,  5, 1000, 1,  3, 0, 0, 0, 0, 0, 0,  3, // as many entries as marks
+    SCHEDULE, 50, 65, 0, 2, 1,  5, 1000, 1,  3, 2, 2, 0, 0, 0, 0,  6, // an early end
+    SCHEDULE, 50, 65, 0, 2, 1,  5, 1000, 1, 12, 2, 2, 0, 0, 0, 0, 15, // a later one
+    SCHEDULE, 50, 65, 0, 2, 1,  1, 1000, 1,  3, 0, 9, 0, 0, 0, 0, 13, // a term that runs out in a gap
+    SCHEDULE, 50, 65, 0, 2, 1,  5, 1000, 0,  0, 0, 0, 0, 0, 0, 0,  2, // no marks
+    SCHEDULE, 50, 65, 0, 2, 1,  5, 1000, 0,  0, 0, 0, 0, 0, 0, 0,  0,
+    SCHEDULE, 40, 67, 0, 1, 1,  0, 2000, 0,  0, 0, 0, 0, 0, 0, 0,  2, // lump sum
+    SCHEDULE, 50, 65, 0, 2, 1,  5, 1000, 1,  5, 0, 0, 0, 0, 0, 0,  4, // 14
+    SCHEDULE, 50, 65, 0, 2, 1,  5, 1000, 1,  1, 0, 0, 0, 0, 0, 0,  0, // 14
+    SCHEDULE, 50, 65, 0, 2, 1,  5, 1000, 1,  2, 3, 1, 0, 0, 0, 0,  2, // 11 before 14
+    SCHEDULE, 50, 65, 0, 2, 1,  5, 1000, 1,  2, 3, 1, 0, 0, 0, 0,  5, // 11
+    SCHEDULE, 50, 65, 0, 2, 1,  5, 1000, 0,  1, 0, 0, 0, 0, 0, 0,  5, // 12
+    SCHEDULE, 50, 65, 0, 2, 1,  5, 1000, 1,  2, 2, 1, 1, 1, 0, 0,  5, // 12
+    SCHEDULE, 50, 65, 0, 2, 1,  5, 1000, 1, 61, 0, 0, 0, 0, 0, 0,  5, // 10
+    SCHEDULE, 50, 65, 0, 3, 1,  5, 1000, 1,  1, 0, 0, 0, 0, 0, 0,  5, // 1
 ];

@@ -1,4 +1,8 @@
 // The marks of a contract's elapsed months, put together from runs of one mark.
+ghost use mathlib.Core.Path.{_≡_};
+ghost use mathlib.Core.List.{[]};
+ghost use lib.ListN.{take};
+ghost use Rattle.figures.specs.Elapsed.{marksIn, withRun};
 
 // The first `count` marks are the elapsed months'.
 pub struct Elapsed {
@@ -6,7 +10,9 @@ pub struct Elapsed {
     pub count: usize,
 }
 
-pub fn none() -> Elapsed {
+pub fn none() -> Elapsed
+    ensures { λ r. ⌜ marksIn r ≡ [] ⌝ }
+{
     Elapsed {
         marks: [0u8; 256],
         count: 0,
@@ -14,7 +20,9 @@ pub fn none() -> Elapsed {
 }
 
 // One run more, as far as there is room. What is no byte is no mark, and adds nothing.
-pub fn then(before: Elapsed, n: u64, months: u64) -> Elapsed {
+pub fn then(before: Elapsed, n: u64, months: u64) -> Elapsed
+    ensures { λ r. ⌜ marksIn r ≡ withRun (marksIn before) n months ⌝ }
+{
     if n > 255 {
         return before;
     }
@@ -33,7 +41,9 @@ pub fn then(before: Elapsed, n: u64, months: u64) -> Elapsed {
 }
 
 // The first marks: all of them, where there are not so many.
-pub fn first(marks: &[u8; 256], count: usize) -> &[u8] {
+pub fn first(marks: &[u8; 256], count: usize) -> &[u8]
+    ensures { λ r. ⌜ now r ≡ take count (now (marks .entry)) ⌝ }
+{
     let all: &[u8] = marks;
     if count > all.len() {
         return all;

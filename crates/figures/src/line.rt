@@ -1,21 +1,16 @@
-// The parts of a line. What a write answers is not looked at: the stored output shows what is missing.
+// A line of output. What a write answers is not looked at: the stored output shows what is missing.
 use libc::STDOUT_FILENO;
 
 pub fn text(t: &[u8]) {
     io::write_all(STDOUT_FILENO, t);
 }
 
-pub fn number(n: u64) {
+fn number(n: u64) {
     text(b" ");
     io::print_decimal(STDOUT_FILENO, n);
 }
 
-pub fn named(name: &[u8], n: u64) {
-    text(name);
-    number(n);
-}
-
-pub fn numbers(list: &[u64]) {
+fn numbers(list: &[u64]) {
     let mut i = 0;
     while i < list.len() {
         number(list[i]);
@@ -32,5 +27,31 @@ pub fn entries(list: &[u32]) {
     while i < list.len() {
         number(wide(list[i]));
         i += 1;
+    }
+}
+
+// The answer's number at an index. Gives the index of the one after it.
+fn answer_at(answer: [u64; 6], i: usize) -> usize {
+    if i < 6 {
+        number(answer[i]);
+        return i + 1;
+    }
+    i
+}
+
+// A form: `*` in it stands for what is asked, each `#` for the next number of the answer.
+pub fn filled(form: &[u8], asked: &[u64], answer: [u64; 6]) {
+    let mut given = 0;
+    let mut i = 0;
+    while i < form.len() {
+        let b = form[i];
+        i += 1;
+        if b == b'*' {
+            numbers(asked);
+        } else if b == b'#' {
+            given = answer_at(answer, given);
+        } else {
+            text(&[b]);
+        }
     }
 }

@@ -1,34 +1,31 @@
-// A line for each row of a table: the row, and what the operation gives for it. The tables' columns are named in cases.rt.
+// A line for each row of a table: the row, and what its operation gives for it. The rows' columns are named in cases.rt.
+ghost use mathlib.Core.Path.{_≡_};
 ghost use Prim.Native.Nat.{_<_, _≤_};
+ghost use lib.ListN.{getD};
+ghost use Rattle.figures.specs.Elapsed.{marksIn, marksOf};
 use crate::elapsed;
 use crate::elapsed::Elapsed;
 use crate::line;
-use election::Terms;
+use terms::Terms;
 use money::PensionPence;
 use quotes::QuoteAnswer;
+use quotes::Quoted;
 use quotes::Register;
 use settlement::Settlement;
 
-pub enum Operation {
-    Nearest,
-    Blend,
-    Rate,
-    CapDecision,
-    Quote,
-    Settle,
-    Schedule,
-}
-
 // The number in a column; 0 past the row.
-fn at(row: &[u64], column: usize) -> u64 {
+fn at(row: &[u64], column: usize) -> u64
+    ensures { λ r. ⌜ r ≡ getD (now (row .entry)) column 0 ⌝ }
+{
     if column < row.len() {
         return row[column];
     }
     0
 }
 
-// A number as wide as the operations take it; the greatest such number for a greater one.
-fn narrow(n: u64) -> u32 {
+// The same, as wide as the operations take it: the greatest such number for a greater one.
+fn narrow(row: &[u64], column: usize) -> u32 {
+    let n = at(row, column);
     if n > 4294967295 {
         return 4294967295;
     }
@@ -38,18 +35,20 @@ fn narrow(n: u64) -> u32 {
 // The first seven columns.
 fn terms(row: &[u64]) -> Terms {
     Terms {
-        age: narrow(at(row, 0)),
-        years: narrow(at(row, 1)),
-        months: narrow(at(row, 2)),
-        option: narrow(at(row, 3)),
-        payer: narrow(at(row, 4)),
-        term: narrow(at(row, 5)),
-        amount: narrow(at(row, 6)),
+        age: narrow(row, 0),
+        years: narrow(row, 1),
+        months: narrow(row, 2),
+        option: narrow(row, 3),
+        payer: narrow(row, 4),
+        term: narrow(row, 5),
+        amount: narrow(row, 6),
     }
 }
 
 // Columns 7 to 14: four runs of marks.
-fn marks(row: &[u64]) -> Elapsed {
+fn marks(row: &[u64]) -> Elapsed
+    ensures { λ r. ⌜ marksIn r ≡ marksOf (now (row .entry)) ⌝ }
+{
     let first = elapsed::then(elapsed::none(), at(row, 7), at(row, 8));
     let second = elapsed::then(first, at(row, 9), at(row, 10));
     let third = elapsed::then(second, at(row, 11), at(row, 12));
@@ -57,88 +56,82 @@ fn marks(row: &[u64]) -> Elapsed {
 }
 
 fn nearest(row: &[u64]) {
-    line::number(rounding::nearest(at(row, 0), at(row, 1)));
+    let n = rounding::nearest(at(row, 0), at(row, 1));
+    line::filled(b"nearest* is#", row, [n, 0, 0, 0, 0, 0]);
 }
 
 fn blend(row: &[u64]) {
-    let twelfths = narrow(at(row, 0));
-    line::number(rounding::blend(twelfths, narrow(at(row, 1)), narrow(at(row, 2))));
+    let n = rounding::blend(narrow(row, 0), narrow(row, 1), narrow(row, 2));
+    line::filled(b"blend* is#", row, [n, 0, 0, 0, 0, 0]);
 }
 
 fn rate(row: &[u64]) {
-    let option = narrow(at(row, 0));
-    let pension_age = narrow(at(row, 1));
-    let age = narrow(at(row, 2));
-    let term = narrow(at(row, 3));
-    line::number(rates::rate_in(monthly::monthly_row(option, pension_age, age), term) as u64);
+    let rates = monthly::monthly_row(narrow(row, 0), narrow(row, 1), narrow(row, 2));
+    let rate = rates::rate_in(rates, narrow(row, 3));
+    line::filled(b"rate* is#", row, [rate as u64, 0, 0, 0, 0, 0]);
 }
 
 fn cap_decision(row: &[u64]) {
-    line::named(
-        b" pounds",
-        quotes::cap_decision(PensionPence(at(row, 0))) as u64,
-    );
+    let pounds = quotes::cap_decision(PensionPence(at(row, 0)));
+    line::filled(b"cap* is pounds#", row, [pounds as u64, 0, 0, 0, 0, 0]);
 }
 
-fn print_quote(refusal: u32, contribution: u64, number: u32, register: Register) {
-    line::named(b" refusal", refusal as u64);
-    line::named(b" contribution", contribution);
-    line::named(b" number", number as u64);
-    line::named(b" register", register.last as u64);
+// Refusal, contribution, number, register.
+fn quote_numbers(quoted: Quoted) -> [u64; 6] {
+    let answer = quoted.answer;
+    let register = quoted.register;
+    match answer {
+        QuoteAnswer::Refused(refusal) => [refusal as u64, 0, 0, register.last as u64, 0, 0],
+        QuoteAnswer::Made {
+            contribution,
+            number,
+        } => [0, contribution.0, number as u64, register.last as u64, 0, 0],
+    }
 }
 
 fn quote(row: &[u64]) {
     let existing = PensionPence(at(row, 7));
-    let last = narrow(at(row, 8));
-    let quoted = quotes::quote(terms(row), existing, Register { last });
-    let answer = quoted.answer;
-    let register = quoted.register;
-    match answer {
-        QuoteAnswer::Refused(refusal) => print_quote(refusal, 0, 0, register),
-        QuoteAnswer::Made {
-            contribution,
-            number,
-        } => print_quote(0, contribution.0, number, register),
-    }
+    let last = narrow(row, 8);
+    let answer = quote_numbers(quotes::quote(terms(row), existing, Register { last }));
+    line::filled(
+        b"quote* is refusal# contribution# number# register#",
+        row,
+        answer,
+    );
 }
 
-fn print_refusal(refusal: u32, place: usize) {
-    line::named(b" refusal", refusal as u64);
-    line::named(b" place", place as u64);
-}
-
-fn print_settled(contribution: u64, status: u32, credit: u64, refund: u64) {
-    line::named(b" contribution", contribution);
-    line::named(b" status", status as u64);
-    line::named(b" credit", credit);
-    line::named(b" refund", refund);
-}
-
-fn settle(row: &[u64]) {
-    let months = marks(row);
-    let all = months.marks;
-    let answer = settlement::settle(terms(row), elapsed::first(&all, months.count));
-    match answer {
-        Settlement::Refused { refusal, place } => {
-            print_refusal(refusal, place);
-            print_settled(0, 0, 0, 0);
-        }
+// Refusal, place, contribution, status, credit, refund.
+fn settlement_numbers(settlement: Settlement) -> [u64; 6] {
+    match settlement {
+        Settlement::Refused { refusal, place } => [refusal as u64, place as u64, 0, 0, 0, 0],
         Settlement::Settled {
             contribution,
             status,
             credit,
             refund,
-        } => {
-            print_refusal(0, 0);
-            print_settled(contribution.0, status, credit.0, refund.0);
-        }
+        } => [0, 0, contribution.0, status as u64, credit.0, refund.0],
     }
 }
 
-fn schedule_into(t: Terms, months: &[u8], list: &mut [u32]) {
-    let answer = schedule::schedule(t, months, list);
-    print_refusal(answer.refusal, answer.place);
-    line::text(b" entries");
+fn settle(row: &[u64]) {
+    let months = marks(row);
+    let all = months.marks;
+    let settlement = settlement::settle(terms(row), elapsed::first(&all, months.count));
+    let answer = settlement_numbers(settlement);
+    line::filled(
+        b"settle* is refusal# place# contribution# status# credit# refund#",
+        row,
+        answer,
+    );
+}
+
+fn schedule_into(row: &[u64], months: &[u8], list: &mut [u32]) {
+    let answer = schedule::schedule(terms(row), months, list);
+    line::filled(
+        b"schedule* is refusal# place# entries",
+        row,
+        [answer.refusal as u64, answer.place as u64, 0, 0, 0, 0],
+    );
     line::entries(list);
 }
 
@@ -152,64 +145,43 @@ fn schedule(row: &[u64]) {
         return;
     }
     schedule_into(
-        terms(row),
+        row,
         elapsed::first(&all, months.count),
         &mut list[..entries],
     );
 }
 
-fn print_answer(operation: Operation, row: &[u64]) {
-    match operation {
-        Operation::Nearest => nearest(row),
-        Operation::Blend => blend(row),
-        Operation::Rate => rate(row),
-        Operation::CapDecision => cap_decision(row),
-        Operation::Quote => quote(row),
-        Operation::Settle => settle(row),
-        Operation::Schedule => schedule(row),
+fn print_row(row: &[u64]) {
+    match row.len() {
+        1 => cap_decision(row),
+        2 => nearest(row),
+        3 => blend(row),
+        4 => rate(row),
+        9 => quote(row),
+        15 => settle(row),
+        16 => schedule(row),
+        _ => {}
     }
 }
 
-fn columns(operation: Operation) -> usize {
-    match operation {
-        Operation::Nearest => 2,
-        Operation::Blend => 3,
-        Operation::Rate => 4,
-        Operation::CapDecision => 1,
-        Operation::Quote => 9,
-        Operation::Settle => 15,
-        Operation::Schedule => 16,
-    }
-}
-
-// Where the next row starts; the end of the table after the last one.
-fn next_row(from: usize, columns: usize, end: usize) -> usize
+// Where a row ends: so many columns after its operation, and no further than the table.
+fn row_end(from: usize, columns: u64, end: usize) -> usize
     requires { ⌜ from < end ⌝ }
     ensures { λ r. ⌜ (from < r) × (r ≤ end) ⌝ }
 {
-    if columns == 0 {
+    if columns as usize >= end - from {
         return end;
     }
-    if columns >= end - from {
-        return end;
-    }
-    from + columns
+    from + 1 + columns as usize
 }
 
-fn print_row(operation: Operation, label: &[u8], row: &[u64]) {
-    line::text(label);
-    line::numbers(row);
-    line::text(b" is");
-    print_answer(operation, row);
-    line::text(b"\n");
-}
-
-pub fn print_table(operation: Operation, label: &[u8], table: &[u64]) {
-    let columns = columns(operation);
+pub fn print_table(document: &[u8], table: &[u64]) {
     let mut from = 0;
     while from < table.len() {
-        let next = next_row(from, columns, table.len());
-        print_row(operation, label, &table[from..next]);
-        from = next;
+        let end = row_end(from, table[from], table.len());
+        line::text(document);
+        print_row(&table[from + 1..end]);
+        line::text(b"\n");
+        from = end;
     }
 }

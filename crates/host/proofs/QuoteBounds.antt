@@ -8,8 +8,8 @@ use borrow.Author.Tests.{eqb-true, eqb-false, leb-false}
 use lib.Dec.{eqb, leb}
 use Rattle.common.specs.Choice.{pick}
 use Rattle.common.proofs.Tests.{by-test}
-use Rattle.election.specs.declared.Terms.{Terms}
-use Rattle.election.specs.Rules.{refusalOf}
+use Rattle.terms.specs.declared.Terms.{Terms}
+use Rattle.terms.specs.Rules.{refusalOf}
 use Rattle.election.proofs.Laws.{accepted-facts, refusal-most, contribution-most}
 use Rattle.quotes.specs.Quote.{QuoteNumbers, quoteRefusal, quoteOf}
 

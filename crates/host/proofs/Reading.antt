@@ -6,7 +6,7 @@ use Prim.Native.Nat.{ℕ, zero, suc, _/_, _^_, _≤_, _<_}
 use native.Mathlib.Nat.{pow-suc}
 use native.Mathlib.Omega.{arith}
 use lib.ListN.{length, drop}
-use Rattle.election.specs.declared.Terms.{Terms}
+use Rattle.terms.specs.declared.Terms.{Terms}
 use Rattle.quotes.specs.Quote.{QuoteNumbers, quoteOf}
 use Rattle.settlement.specs.Settle.{SettleNumbers, settleOf}
 use Rattle.settlement.specs.Told.{SettleBounds}

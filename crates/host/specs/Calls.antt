@@ -5,7 +5,7 @@ use Prim.Native.Nat.{ℕ}
 use lib.Dec.{ltb}
 use lib.ListN.{length, drop}
 use Rattle.common.specs.Choice.{pick}
-use Rattle.election.specs.declared.Terms.{Terms}
+use Rattle.terms.specs.declared.Terms.{Terms}
 use Rattle.quotes.specs.Quote.{QuoteNumbers, quoteOf}
 use Rattle.settlement.specs.Settle.{SettleNumbers, settleOf}
 use Rattle.host.specs.Bytes.{inBytes}

@@ -8,7 +8,7 @@ ghost use Rattle.quotes.specs.Quote.{numbersOf as quoteNumbers};
 ghost use Rattle.settlement.specs.Settle.{numbersOf as settleNumbers};
 ghost use Rattle.host.specs.Bytes.{eightBytes, inBytes};
 ghost use Rattle.host.specs.Calls.{terms, quoteBytes, settleBytes, hostQuoteOf, hostSettleOf};
-use election::Terms;
+use terms::Terms;
 use money::ContributionPence;
 use money::PensionPence;
 use quotes::QuoteAnswer;

@@ -10,7 +10,7 @@ use native.Mathlib.Omega.{arith}
 use lib.Dec.{T, eqb}
 use lib.ListN.{length, drop, length-set}
 use lib.Seq.{append-snoc, drop-set-lt, take-suc-set, take-append-seam}
-use Rattle.election.specs.declared.Terms.{Terms}
+use Rattle.terms.specs.declared.Terms.{Terms}
 use Rattle.marks.proofs.Term.{marks-counts, lawful-for-take}
 use Rattle.marks.specs.declared.Reading.{Reading}
 use Rattle.settlement.specs.Settle.{settleOf}

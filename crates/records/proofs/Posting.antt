@@ -9,7 +9,7 @@ use borrow.Author.Tests.{eq-eqb, ne-eqb}
 use lib.ListN.{length, getD}
 use lib.Seq.{length-take-le, set-getD}
 use Rattle.common.proofs.Tests.{by-test}
-use Rattle.election.specs.declared.Terms.{Terms}
+use Rattle.terms.specs.declared.Terms.{Terms}
 use Rattle.marks.specs.Reading.{oneMore, stepBy, marksOf}
 use Rattle.marks.specs.declared.Reading.{Reading}
 use Rattle.marks.proofs.Lists.{length-last}

@@ -4,7 +4,7 @@ use mathlib.Core.List.{List, [], _∷_}
 use mathlib.Core.Path.{_≡_}
 use Prim.Native.Nat.{ℕ}
 use lib.ListN.{length, replicate}
-use Rattle.election.specs.declared.Terms.{Terms}
+use Rattle.terms.specs.declared.Terms.{Terms}
 use Rattle.settlement.specs.Settle.{settleOf}
 use Rattle.records.specs.declared.Contract.{Contract}
 use Rattle.records.specs.Record.{usedMarks, settledRecord}

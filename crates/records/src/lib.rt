@@ -9,7 +9,7 @@ ghost use Rattle.records.specs.Total.{refusedWith, openingOf, addOf, mem
 
 pub mod by_value;
 
-use election::Terms;
+use terms::Terms;
 use money::PensionPence;
 use settlement::Settlement;
 

@@ -44,8 +44,8 @@ use denote.Triple.Spec.{Meets, tripleOf}
 use denote.Triple.Table.{entered, cited}
 use denote.Triple.Walked.{says, Stays, stay-ref, stay-none, walkOf, goes-none, goes-ref, Walks, ends-at, walked, walk-meets}
 use denote.Exit.{yes}
-use Rattle.election.proofs.Terms as E
-use Rattle.election.proofs.Terms.Laws as E′
+use Rattle.terms.proofs.Terms as E
+use Rattle.terms.proofs.Terms.Laws as E′
 use Rattle.records.specs.declared.Contract.{Contract}
 use Rattle.records.specs.declared.Entry.{Entry}
 use Rattle.records.specs.declared.Posted.{Posted}

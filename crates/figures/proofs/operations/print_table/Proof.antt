@@ -7,19 +7,28 @@ use Rattle.figures.proofs.operations.print_table.Statement.{statement}
 use Rattle.figures.proofs.operations.print_table.Tie as tie
 
 abbrev Inv-loop : tie.InvT-loop
-Inv-loop operation label table columns from₀ from = from ≤ length table
+Inv-loop document table from₀ t5 from = from ≤ length table
 
 abbrev μ-loop : tie.MeasureT-loop
-μ-loop operation label table columns from₀ from = length table - from
-
-columns-requires : tie.Need-columns-requires Inv-loop μ-loop
-columns-requires c κs = search needs
+μ-loop document table from₀ t5 from = length table - from
 
 loop-holds : tie.Need-loop-holds Inv-loop μ-loop
 loop-holds c = search needs
 
-next-row-requires : tie.Need-next-row-requires Inv-loop μ-loop
-next-row-requires c κs = search needs
+mul-row-end : tie.Need-mul-row-end Inv-loop μ-loop
+mul-row-end c = search needs
+
+shared-slice-read-row-end : tie.Need-shared-slice-read-row-end Inv-loop μ-loop
+shared-slice-read-row-end c = search needs
+
+row-end-requires : tie.Need-row-end-requires Inv-loop μ-loop
+row-end-requires c κs = search needs
+
+text-requires : tie.Need-text-requires Inv-loop μ-loop
+text-requires c κs = search needs
+
+add-print-row : tie.Need-add-print-row Inv-loop μ-loop
+add-print-row c = search needs
 
 mul-print-row : tie.Need-mul-print-row Inv-loop μ-loop
 mul-print-row c = search needs
@@ -36,6 +45,12 @@ part-print-row-end c = search needs
 print-row-requires : tie.Need-print-row-requires Inv-loop μ-loop
 print-row-requires c κs = search needs
 
+slice-aggregate-text : tie.Need-slice-aggregate-text Inv-loop μ-loop
+slice-aggregate-text c = search needs
+
+text-requires-2 : tie.Need-text-requires-2 Inv-loop μ-loop
+text-requires-2 c κs = search needs
+
 loop-less : tie.Need-loop-less Inv-loop μ-loop
 loop-less c = search needs
 
@@ -51,14 +66,19 @@ print-table-spec =
     (tie.spec
     Inv-loop
     μ-loop
-    columns-requires
     loop-holds
-    next-row-requires
+    mul-row-end
+    shared-slice-read-row-end
+    row-end-requires
+    text-requires
+    add-print-row
     mul-print-row
     sub-print-row
     part-print-row-start
     part-print-row-end
     print-row-requires
+    slice-aggregate-text
+    text-requires-2
     loop-less
     loop-again
     returns)

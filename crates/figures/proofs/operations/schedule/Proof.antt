@@ -2,8 +2,8 @@
 -- Assumes nothing.
 use mathlib.Core.Path.{sym}
 use native.Mathlib.Omega.{arith}
-use borrow.Author.Needs.{needs}
 use lib.Seq.{length-take-le}
+use borrow.Author.Needs.{needs}
 use Rattle.figures.proofs.operations.schedule.Statement.{statement}
 use Rattle.figures.proofs.operations.schedule.Tie as tie
 
@@ -15,9 +15,6 @@ at-requires c κs = search needs
 
 returns : tie.Need-returns
 returns c = search needs
-
-terms-requires : tie.Need-terms-requires
-terms-requires c κs = search needs
 
 first-requires : tie.Need-first-requires
 first-requires c κs = search needs
@@ -41,7 +38,6 @@ schedule-spec =
     marks-requires
     at-requires
     returns
-    terms-requires
     first-requires
     array-borrow-prefix-list
     slice-aggregate-schedule-into

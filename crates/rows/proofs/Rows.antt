@@ -5,8 +5,8 @@ use mathlib.Core.Path.{_≡_, refl}
 use Rattle.common.specs.Table.{tabulate}
 use Rattle.rounding.specs.Nearest.{nearest, blend, combine}
 use Rattle.rates.specs.Rates.{tableOf, cellOf, rateOf}
-use Rattle.election.specs.Rate.{tableRate}
-use Rattle.election.specs.Rules.{wrongOption, wrongPensionAge, wrongTerm, wrongPayer, noLowerRate, noUpperRate, wrongAmount, aboveCap, refusalOf}
+use Rattle.terms.specs.Rate.{tableRate}
+use Rattle.terms.specs.Rules.{wrongOption, wrongPensionAge, wrongTerm, wrongPayer, noLowerRate, noUpperRate, wrongAmount, aboveCap, refusalOf}
 use Rattle.election.specs.Price.{contributionAt, contributionIn, contributionOf}
 use Rattle.marks.specs.Counts.{lastOr, allPaid, paidMonths, paidThrough, finalGap}
 use Rattle.status.specs.Status.{stoppedOf, statusOf}
@@ -16,7 +16,7 @@ use Rattle.credit.specs.Runs.{runsFrom, runFrom, runsIn}
 use Rattle.credit.specs.Credit.{earned, creditOver, creditIn}
 use Rattle.settlement.specs.Credit.{creditOf}
 use Rattle.settlement.specs.Settle.{settleRefusal, settlePlace, creditAtStatus, refundAtStatus, settleOf}
-use Rattle.figures.specs.Rows.{Row, priceRows, creditRows, statusRows, tellingRows, rows}
+use Rattle.rows.specs.Rows.{Row, priceRows, creditRows, statusRows, tellingRows, rows}
 
 pub all-rows : map (λ (r : Row). r .found) rows ≡ map (λ (r : Row). r .stated) rows
 unfolding rows priceRows creditRows statusRows tellingRows settleOf settleRefusal settlePlace creditAtStatus refundAtStatus creditOf creditIn creditOver earned runsIn runsFrom runFrom monthValue yearCredits yearCredit tabulate marksOf readOn stepBy nextRefusalOf countMark statusOf stoppedOf lastOr allPaid paidMonths paidThrough finalGap contributionOf contributionIn contributionAt tableRate rateOf cellOf tableOf combine blend nearest refusalOf wrongOption wrongPensionAge wrongTerm wrongPayer noLowerRate noUpperRate wrongAmount aboveCap

@@ -4,8 +4,8 @@ use mathlib.Core.List.{List, [], _∷_, _++_}
 use Prim.Native.Nat.{ℕ}
 use lib.ListN.{take, replicate}
 use Rattle.rounding.specs.Nearest.{nearest, blend}
-use Rattle.election.specs.declared.Terms.{Terms}
-use Rattle.election.specs.Rules.{refusalOf}
+use Rattle.terms.specs.declared.Terms.{Terms}
+use Rattle.terms.specs.Rules.{refusalOf}
 use Rattle.election.specs.Price.{contributionOf}
 use Rattle.years.specs.Years.{yearCredits, monthValue}
 use Rattle.settlement.specs.Credit.{purchaseIn}

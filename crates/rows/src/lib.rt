@@ -1,0 +1,1 @@
+// The figures that document 01 marks P, as rows that are proved to follow from the definitions: specs/ and proofs/. There is nothing to run.
