@@ -2,7 +2,7 @@
 use election::Terms;
 use records::Contract;
 use records::Posted;
-use records::by_value::Outcome;
+use by_value::Outcome;
 
 // £1,000 by monthly payments for 5 years, from age 50, with dependant's pension, at pension age 65.
 fn monthly() -> Terms {
@@ -70,7 +70,7 @@ fn times(o: Outcome, mark: u8, n: usize) -> Outcome {
     let mut i = 0;
     while i < n {
         let c = out.contract;
-        out = records::by_value::post_into(c, mark);
+        out = by_value::post_into(c, mark);
         i += 1;
     }
     out
@@ -223,7 +223,7 @@ fn outside_records() {
 
 // The total over the first n records.
 fn total(list: [Contract; 65], n: usize) {
-    let t = records::by_value::total_of_first(list, n);
+    let t = by_value::total_of_first(list, n);
     let mut l = number(blank_line(), 7, n as u64);
     l = number(l, 35, t.refusal as u64);
     l = number(l, 41, t.index as u64);

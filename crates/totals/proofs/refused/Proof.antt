@@ -1,8 +1,8 @@
--- `records::refused` meets its contract.
+-- `totals::refused` meets its contract.
 -- Assumes nothing.
 use borrow.Author.Needs.{needs}
-use Rattle.records.proofs.refused.Statement.{statement}
-use Rattle.records.proofs.refused.Tie as tie
+use Rattle.totals.proofs.refused.Statement.{statement}
+use Rattle.totals.proofs.refused.Tie as tie
 
 none-requires : tie.Need-none-requires
 none-requires c κs = search needs

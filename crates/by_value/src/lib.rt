@@ -2,11 +2,11 @@
 ghost use mathlib.Core.Path.{_≡_};
 ghost use Prim.Native.Nat.{min};
 ghost use lib.ListN.{take};
 ghost use Rattle.records.specs.Post.{postOf, postedRecord};
-ghost use Rattle.records.specs.Total.{memberTotalOf};
-use crate::Contract;
-use crate::Posted;
-use crate::Total;
+ghost use Rattle.totals.specs.Total.{memberTotalOf};
+use records::Contract;
+use records::Posted;
+use totals::Total;
 
 // What posting answers, and the record that it leaves.
 pub struct Outcome {
@@ -18,7 +18,7 @@ pub fn post_into(c: Contract, mark: u8) -> Outcome
     ensures { λ r. ⌜ (r .posted ≡ postOf c mark) × (r .contract ≡ postedRecord c mark) ⌝ }
 {
     let mut held = c;
-    let posted = crate::post(&mut held, mark);
+    let posted = records::post(&mut held, mark);
     Outcome {
         posted,
         contract: held,
@@ -39,5 +39,5 @@ pub fn total_of_first(records: [Contract; 65], n: usize) -> Total
     ensures { λ r. ⌜ r ≡ memberTotalOf (take n records) ⌝ }
 {
     let end = at_most_65(n);
-    crate::member_total(&records[..end])
+    totals::member_total(&records[..end])
 }

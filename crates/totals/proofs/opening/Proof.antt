@@ -1,10 +1,10 @@
--- `records::opening` meets its contract: each return is one case of the definition.
+-- `totals::opening` meets its contract: each return is one case of the definition.
 -- Assumes nothing.
 use borrow.Author.Needs.{needs}
 use Rattle.common.proofs.Tests.{tests}
-use Rattle.records.specs.Total.{openingOf}
-use Rattle.records.proofs.opening.Statement.{statement}
-use Rattle.records.proofs.opening.Tie as tie
+use Rattle.totals.specs.Total.{openingOf}
+use Rattle.totals.proofs.opening.Statement.{statement}
+use Rattle.totals.proofs.opening.Tie as tie
 
 refused-requires : tie.Need-refused-requires
 refused-requires c κs = search needs

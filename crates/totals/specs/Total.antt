@@ -7,10 +7,10 @@ use lib.Dec.{ltb}
 use lib.ListN.{length}
 use Rattle.common.specs.Choice.{pick}
 use Rattle.money.specs.Money.{pension}
 use Rattle.records.specs.declared.Contract.{Contract}
-use Rattle.records.specs.declared.Total.{Total}
-use Rattle.records.specs.declared.Tally.{Tally}
+use Rattle.totals.specs.declared.Total.{Total}
+use Rattle.totals.specs.declared.Tally.{Tally}
 use Rattle.records.specs.Record.{settledRecord, badRecord}
 
 -- the credits of the records added up, an empty list giving 0
 unfoldable pub creditSum : List Contract → ℕ

@@ -12,10 +12,10 @@ use lib.ListN.{length, take, getD, replicate}
 use lib.Seq.{take-all, length-take-le}
 use Rattle.common.proofs.Tests.{or-false}
 use Rattle.settlement.proofs.Bounds.{settle-bounds}
 use Rattle.records.specs.declared.Contract.{Contract}
-use Rattle.records.specs.declared.Tally.{Tally}
+use Rattle.totals.specs.declared.Tally.{Tally}
 use Rattle.records.specs.Record.{usedMarks, settledRecord, badRecord}
-use Rattle.records.specs.Total.{creditSum, anyBad, firstBadRecord, totalling, memberTotalOf, openingOf, addOf}
+use Rattle.totals.specs.Total.{creditSum, anyBad, firstBadRecord, totalling, memberTotalOf, openingOf, addOf}
 
 -- what stands past the end of a list of records
 abbrev pub blank : Contract

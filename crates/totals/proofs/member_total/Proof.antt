@@ -1,4 +1,4 @@
--- `records::member_total` meets its contract: a walk of its MIR by hand. The slice is looked into once, before the
+-- `totals::member_total` meets its contract: a walk of its MIR by hand. The slice is looked into once, before the
 -- loop, and shut once, after it. A turn takes the record at i out of the row, copies it, puts it back and calls `add`
 -- on the copy; how the tally stands after it is said by Adding.antt.
 -- All that the walk knows of `opening` and `add` is that they meet their contracts.
@@ -51,31 +51,31 @@ use denote.Triple.Spec.{Meets, tripleOf}
 use denote.Triple.Table.{entered, cited}
 use denote.Triple.Walked.{says, Stays, stay-none-slice, walkOf, goes-none-slice, Walks, ends-at, walked, walk-meets}
 use denote.Exit.{yes}
 use Rattle.records.specs.declared.Contract.{Contract}
-use Rattle.records.specs.declared.Tally.{Tally}
-use Rattle.records.specs.declared.Total.{Total}
-use Rattle.records.specs.Total.{memberTotalOf, openingOf, addOf}
-use Rattle.records.proofs.Adding.{blank, Stands, stands-first, stands-inside, stands-bound, stands-last, stands-next}
+use Rattle.totals.specs.declared.Tally.{Tally}
+use Rattle.totals.specs.declared.Total.{Total}
+use Rattle.totals.specs.Total.{memberTotalOf, openingOf, addOf}
+use Rattle.totals.proofs.Adding.{blank, Stands, stands-first, stands-inside, stands-bound, stands-last, stands-next}
 use Rattle.records.proofs.Cells.{recordVal, Held}
 use Rattle.records.proofs.Contract as K
 use Rattle.records.proofs.Contract.Laws as K′
-use Rattle.records.proofs.Tally as T
-use Rattle.records.proofs.Tally.Laws as T′
-use Rattle.records.proofs.Total as S
-use Rattle.records.proofs.Total.Laws as S′
-use Rattle.records.proofs.opening as opening
-use Rattle.records.proofs.opening.Symbol as opening-def
-use Rattle.records.proofs.opening.Symbol.{name as #records·opening}
-use Rattle.records.proofs.opening.Met as opening-thm
-use Rattle.records.proofs.add as add
-use Rattle.records.proofs.add.Symbol as add-def
-use Rattle.records.proofs.add.Symbol.{name as #records·add}
-use Rattle.records.proofs.add.Met as add-thm
-use Rattle.records.proofs.member_total.Key.{name as #records·member-total}
-use Rattle.records.proofs.member_total as f
-use Rattle.records.proofs.member_total.Statement as stated
-use Rattle.records.proofs.member_total.Code as code
-use Rattle.records.proofs.member_total.Code.Mir as mir
+use Rattle.totals.proofs.Tally as T
+use Rattle.totals.proofs.Tally.Laws as T′
+use Rattle.totals.proofs.Total as S
+use Rattle.totals.proofs.Total.Laws as S′
+use Rattle.totals.proofs.opening as opening
+use Rattle.totals.proofs.opening.Symbol as opening-def
+use Rattle.totals.proofs.opening.Symbol.{name as #totals·opening}
+use Rattle.totals.proofs.opening.Met as opening-thm
+use Rattle.totals.proofs.add as add
+use Rattle.totals.proofs.add.Symbol as add-def
+use Rattle.totals.proofs.add.Symbol.{name as #totals·add}
+use Rattle.totals.proofs.add.Met as add-thm
+use Rattle.totals.proofs.member_total.Key.{name as #totals·member-total}
+use Rattle.totals.proofs.member_total as f
+use Rattle.totals.proofs.member_total.Statement as stated
+use Rattle.totals.proofs.member_total.Code as code
+use Rattle.totals.proofs.member_total.Code.Mir as mir
 
 abbrev stayed : Stays (f.ended .signature .params) (f.ended .kept)
 stayed = (stay-none-slice (0 ∷ []) tt (plain (λ _. K.the-row)) yes, tt)
@@ -184,7 +184,7 @@ module _ {M : Type 1} (𝓤 : URA M) (H : Heap 𝓤) (A : Atoms 𝓤) (W : Given
       nothing ! $
       done !
 
-  module _ (𝓣 : Tables 𝓤 H) (known : Triple 𝓤 (𝓣 .C #records·add) (Add 𝓤 H A at-mem run)) (q′ : Share)
+  module _ (𝓣 : Tables 𝓤 H) (known : Triple 𝓤 (𝓣 .C #totals·add) (Add 𝓤 H A at-mem run)) (q′ : Share)
       (l₀ l₁ l₂ l₃ l₄ l₅ l₆ l₇ l₈ l₉ : ℕ) where
     abbrev C : Calls 𝓤 H
     C = 𝓣 .C
@@ -360,7 +360,7 @@ module _ {M : Type 1} (𝓤 : URA M) (H : Heap 𝓤) (A : Atoms 𝓤) (W : Given
   at-start : (t : Tally) → t ≡ openingOf (length cs) → TallyHeld t → Turn cs
   at-start t e is = record { i = 0; t = t; fits = lit< tt; stands = stands-first cs t e; held = is }
 
-  walk : (𝓣 : Tables 𝓤 H) → Triple 𝓤 (𝓣 .C #records·opening) (Opening 𝓤 H A at-mem run) → Triple 𝓤 (𝓣 .C #records·add) (Add 𝓤 H A at-mem run)
+  walk : (𝓣 : Tables 𝓤 H) → Triple 𝓤 (𝓣 .C #totals·opening) (Opening 𝓤 H A at-mem run) → Triple 𝓤 (𝓣 .C #totals·add) (Add 𝓤 H A at-mem run)
       → ent 𝓤 (onEntry 𝓤 H A f.signature (κ, tt) (q, tt) x at) (WpFn 𝓤 H (𝓣 .C) (𝓣 .Λ) code.function (sliceVal (b, o) (length cs) ∷ []) Post)
   unfolding at-start
   walk 𝓣 opens-so known =
@@ -412,7 +412,7 @@ module _ {M : Type 1} (𝓤 : URA M) (H : Heap 𝓤) (A : Atoms 𝓤) (W : Given
       looped 𝓣 known q′ l₀ l₁ l₂ l₃ l₄ l₅ l₆ l₇ l₈ l₉ (at-start t e (subst (Is T.the-row t) (LL.tells T.the-type T′.the-laws t _ is) is)))))))))))))))))
 
 module _ {M : Type 1} (𝓤 : URA M) (H : Heap 𝓤) (A : Atoms 𝓤) (W : Given 𝓤 H A) (at-mem : Memory → SProp 𝓤) (run : Routine → Fun 𝓤) where
-  member-total-walks : (𝓣 : Tables 𝓤 H) → Triple 𝓤 (𝓣 .C #records·opening) (Opening 𝓤 H A at-mem run) → Triple 𝓤 (𝓣 .C #records·add) (Add 𝓤 H A at-mem run)
+  member-total-walks : (𝓣 : Tables 𝓤 H) → Triple 𝓤 (𝓣 .C #totals·opening) (Opening 𝓤 H A at-mem run) → Triple 𝓤 (𝓣 .C #totals·add) (Add 𝓤 H A at-mem run)
       → Walks 𝓤 H A f.ended stayed (WpFn 𝓤 H (𝓣 .C) (𝓣 .Λ) code.function) (f.clauses 𝓤 H A at-mem run)
   member-total-walks 𝓣 opens-so known =
       walked 𝓤 H A f.ended stayed (f.clauses 𝓤 H A at-mem run) (WpFn 𝓤 H (𝓣 .C) (𝓣 .Λ) code.function)
@@ -423,7 +423,7 @@ module _ {M : Type 1} (𝓤 : URA M) (H : Heap 𝓤) (A : Atoms 𝓤) (W : Given
       (walk 𝓤 H A W at-mem run (κs .0) (qs .0) (a .0 .ptr .0) (a .0 .ptr .1) (a .0 .name) (a .0 .now) (are .0 .0 .1) 𝓣 opens-so known))
 
 member-total-meets : {M : Type 1} (𝓤 : URA M) (H : Heap 𝓤) (A : Atoms 𝓤) → Given 𝓤 H A → (at-mem : Memory → SProp 𝓤) (run : Routine → Fun 𝓤) (𝓣 : Tables 𝓤 H)
-    → Triple 𝓤 (𝓣 .C #records·opening) (Opening 𝓤 H A at-mem run) → Triple 𝓤 (𝓣 .C #records·add) (Add 𝓤 H A at-mem run)
+    → Triple 𝓤 (𝓣 .C #totals·opening) (Opening 𝓤 H A at-mem run) → Triple 𝓤 (𝓣 .C #totals·add) (Add 𝓤 H A at-mem run)
     → Meets 𝓤 H A f.signature (WpFn 𝓤 H (𝓣 .C) (𝓣 .Λ) code.function) (f.spec 𝓤 H A at-mem run)
 member-total-meets 𝓤 H A W at-mem run 𝓣 opens-so known =
     walk-meets 𝓤 H A f.ended stayed W (goes-none-slice 𝓤 H A W 1 (0 ∷ []) tt (plain (λ _. K.the-row)) yes, tt) (f.clauses 𝓤 H A at-mem run)
@@ -437,9 +437,9 @@ member-total-spec 𝓤 H 𝓜 𝓖 𝓡 =
     entered 𝓤 H (tripleOf 𝓤 H (𝓖 .A) f.signature (f.spec 𝓤 H (𝓖 .A) (𝓜 .mem) (𝓡 .run)))
     (tables 𝓤 H 𝓜 𝓡 code.env .C)
     (tables 𝓤 H 𝓜 𝓡 code.env .Λ)
-    #records·member-total
+    #totals·member-total
     code.function
     (code.unfolded 𝓤 H 𝓜 𝓡)
     (member-total-meets 𝓤 H (𝓖 .A) (givenOf 𝓤 H 𝓜 𝓖) (𝓜 .mem) (𝓡 .run) (tablesOf 𝓤 H 𝓜 (tables 𝓤 H 𝓜 𝓡 code.env))
-    (cited 𝓤 H (Opening 𝓤 H (𝓖 .A) (𝓜 .mem) (𝓡 .run)) 𝓜 𝓡 code.env #records·opening opening-def.routine code.calls-records·opening (opening-thm.met 𝓤 H 𝓜 𝓖 𝓡))
-    (cited 𝓤 H (Add 𝓤 H (𝓖 .A) (𝓜 .mem) (𝓡 .run)) 𝓜 𝓡 code.env #records·add add-def.routine code.calls-records·add (add-thm.met 𝓤 H 𝓜 𝓖 𝓡)))
+    (cited 𝓤 H (Opening 𝓤 H (𝓖 .A) (𝓜 .mem) (𝓡 .run)) 𝓜 𝓡 code.env #totals·opening opening-def.routine code.calls-totals·opening (opening-thm.met 𝓤 H 𝓜 𝓖 𝓡))
+    (cited 𝓤 H (Add 𝓤 H (𝓖 .A) (𝓜 .mem) (𝓡 .run)) 𝓜 𝓡 code.env #totals·add add-def.routine code.calls-totals·add (add-thm.met 𝓤 H 𝓜 𝓖 𝓡)))

@@ -1,15 +1,15 @@
--- `records::add` meets its contract. No credit is above the cap, so the sum fits.
+-- `totals::add` meets its contract. No credit is above the cap, so the sum fits.
 -- Assumes nothing.
 use mathlib.Core.Path.{sym, ap, _∙_}
 use native.Mathlib.Omega.{arith}
 use borrow.Author.Needs.{needs}
 use Rattle.money.specs.declared.PensionPence.{PensionPence}
 use Rattle.settlement.proofs.Bounds.{settle-bounds}
 use Rattle.records.specs.Record.{usedMarks}
-use Rattle.records.specs.Total.{addOf}
+use Rattle.totals.specs.Total.{addOf}
 use Rattle.records.proofs.Bad.{check-bad, check-credit}
-use Rattle.records.proofs.add.Statement.{statement}
-use Rattle.records.proofs.add.Tie as tie
+use Rattle.totals.proofs.add.Statement.{statement}
+use Rattle.totals.proofs.add.Tie as tie
 
 check-record-requires : tie.Need-check-record-requires
 check-record-requires c κs = search needs

@@ -1,0 +1,87 @@
+// A member's total over a list of contract records.
+ghost use mathlib.Core.Path.{_≡_};
+ghost use Prim.Native.Nat.{_*_, _≤_};
+ghost use Rattle.totals.specs.Total.{refusedWith, openingOf, addOf, memberTotalOf};
+use money::PensionPence;
+use records::Contract;
+
+// What a total answers; the index is that of a bad record.
+pub struct Total {
+    pub refusal: u32,
+    pub index: usize,
+    pub credit: PensionPence,
+}
+
+// A total so far, and the index at which the records to be added end; a refusal leaves none.
+struct Tally {
+    end: usize,
+    total: Total,
+}
+
+// The most records that a total is made of.
+pub const MOST_RECORDS: usize = 64;
+
+fn refused(refusal: u32, index: usize) -> Tally
+    ensures { λ r. ⌜ r ≡ refusedWith refusal index ⌝ }
+{
+    Tally {
+        end: 0,
+        total: Total {
+            refusal,
+            index,
+            credit: PensionPence::none(),
+        },
+    }
+}
+
+// The tally before any of n records.
+fn opening(n: usize) -> Tally
+    ensures { λ r. ⌜ r ≡ openingOf n ⌝ }
+{
+    if n > MOST_RECORDS {
+        return refused(14, 0);
+    }
+    Tally {
+        end: n,
+        total: Total {
+            refusal: 0,
+            index: 0,
+            credit: PensionPence::none(),
+        },
+    }
+}
+
+// The tally with the record at an index.
+fn add(t: Tally, c: Contract, index: usize) -> Tally
+    requires { ⌜ t .total .credit .0 ≤ 64 * 650000 ⌝ }
+    ensures { λ r. ⌜ r ≡ addOf t c index ⌝ }
+{
+    let check = records::check_record(c);
+    if check.bad {
+        return refused(13, index);
+    }
+    let sum = t.total.credit;
+    let credit = sum.plus(check.credit);
+    Tally {
+        end: t.end,
+        total: Total {
+            refusal: 0,
+            index: 0,
+            credit,
+        },
+    }
+}
+
+// Adds the credits of the lent records in list order.
+pub fn member_total(records: &[Contract]) -> Total
+    ensures { λ r. ⌜ r ≡ memberTotalOf (now (records .entry)) ⌝ }
+{
+    let mut t = opening(records.len());
+    let mut i = 0;
+    while i < t.end {
+        let c = records[i];
+        t = add(t, c, i);
+        i += 1;
+    }
+    t.total
+}
