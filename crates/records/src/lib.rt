@@ -1,13 +1,11 @@
 // The contract record, and posting a month in its own memory.
-ghost use mathlib.Core.Bool.{true};
 ghost use mathlib.Core.Path.{_≡_};
-ghost use Rattle.money.specs.Money.{pension};
+ghost use lib.ListN.{drop};
 ghost use Rattle.records.specs.Record.{allZero, checkOf};
 ghost use Rattle.records.specs.Post.{postRefusal, placeOf, postOf, postedRecord, Decided};
 
 use election::Terms;
 use money::PensionPence;
-use settlement::Settlement;
 
 // The marks before the count are in use; the others are 0.
 pub struct Contract {
@@ -36,10 +34,11 @@ struct Entry {
     posted: Posted,
 }
 
-fn all_zero(marks: &[u8]) -> bool
-    ensures { λ r. ⌜ r ≡ allZero (now (marks .entry)) ⌝ }
+// Whether the marks from an index on are 0.
+fn all_zero(marks: &[u8], from: usize) -> bool
+    ensures { λ r. ⌜ r ≡ allZero (drop from (now (marks .entry))) ⌝ }
 {
-    let mut i = 0;
+    let mut i = from;
     while i < marks.len() {
         if marks[i] != 0 {
             return false;
@@ -49,15 +48,6 @@ fn all_zero(marks: &[u8]) -> bool
     true
 }
 
-fn bad_record() -> RecordCheck
-    ensures { λ r. ⌜ r ≡ record { bad = true; credit = pension 0 } ⌝ }
-{
-    RecordCheck {
-        bad: true,
-        credit: PensionPence::none(),
-    }
-}
-
 // The check of a record that posting and the total both make.
 pub fn check_record(c: Contract) -> RecordCheck
     ensures { λ r. ⌜ r ≡ checkOf c ⌝ }
@@ -65,23 +55,21 @@ pub fn check_record(c: Contract) -> RecordCheck
     let count = c.count;
     let marks = c.marks;
     if count > 240 {
-        return bad_record();
+        return RecordCheck {
+            bad: true,
+            credit: PensionPence(0),
+        };
     }
-    if !all_zero(&marks[count..]) {
-        return bad_record();
+    if !all_zero(&marks, count) {
+        return RecordCheck {
+            bad: true,
+            credit: PensionPence(0),
+        };
     }
-    let terms = c.terms;
-    match settlement::settle(terms, &marks[..count]) {
-        Settlement::Refused { refusal, place: _ } => RecordCheck {
-            bad: refusal != 0,
-            credit: PensionPence::none(),
-        },
-        Settlement::Settled {
-            contribution: _,
-            status: _,
-            credit,
-            refund: _,
-        } => RecordCheck { bad: false, credit },
+    let n = numbers::numbers_of(settlement::settle(c.terms, &marks[..count]));
+    RecordCheck {
+        bad: n.refusal != 0,
+        credit: PensionPence(n.credit),
     }
 }
 
@@ -93,8 +81,7 @@ fn refuse_post(c: Contract, mark: u8) -> u32
     if check.bad {
         return 13;
     }
-    let terms = c.terms;
-    let term = terms.term;
+    let term = c.terms.term;
     let count = c.count;
     let marks = c.marks;
     if count >= 12 * (term as usize) {
@@ -122,24 +109,25 @@ fn decide(c: Contract, mark: u8) -> Entry
 {
     let refusal = refuse_post(c, mark);
     let count = c.count;
-    let marks = c.marks;
+    let posted = Posted {
+        refusal,
+        place: place(refusal, count),
+    };
     if refusal == 0 {
+        let next = count + 1;
         return Entry {
             at: count,
             mark,
-            count: count + 1,
-            posted: Posted {
-                refusal: 0,
-                place: 0,
-            },
+            count: next,
+            posted,
         };
     }
-    let place = place(refusal, count);
+    let marks = c.marks;
     Entry {
         at: 0,
         mark: marks[0],
         count,
-        posted: Posted { refusal, place },
+        posted,
     }
 }
 
