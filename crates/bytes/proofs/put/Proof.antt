@@ -1,4 +1,4 @@
--- `host::put` meets its contract. The loop's invariant: storing what is left of the eight bytes gives what storing all of them
+-- `bytes::put` meets its contract. The loop's invariant: storing what is left of the eight bytes gives what storing all of them
 -- gives. The measure is how many are left.
 -- Assumes nothing.
 use mathlib.Core.Path.{_≡_, refl, ap, _∙_}
@@ -8,9 +8,9 @@ use borrow.Author.Needs.{needs}
 use denote.Ref.{now}
 use lib.ListN.{length, length-set, drop}
 use lib.Seq.{sets}
-use Rattle.host.proofs.Writing.{length-eight, store-one, store-none, store-all}
-use Rattle.host.proofs.put.Statement.{statement}
-use Rattle.host.proofs.put.Tie as tie
+use Rattle.bytes.proofs.Writing.{length-eight, store-one, store-none, store-all}
+use Rattle.bytes.proofs.put.Statement.{statement}
+use Rattle.bytes.proofs.put.Tie as tie
 
 abbrev Inv-loop : tie.InvT-loop
 Inv-loop out₀ at n bytes i₀ out i =

@@ -1,9 +1,9 @@
--- `host::low_byte_first` meets its contract.
+-- `bytes::low_byte_first` meets its contract.
 -- Assumes nothing.
 use borrow.Author.Needs.{needs}
-use Rattle.host.specs.Bytes.{lowBytes, eightBytes}
-use Rattle.host.proofs.low_byte_first.Statement.{statement}
-use Rattle.host.proofs.low_byte_first.Tie as tie
+use Rattle.bytes.proofs.Writing.{eight-are}
+use Rattle.bytes.proofs.low_byte_first.Statement.{statement}
+use Rattle.bytes.proofs.low_byte_first.Tie as tie
 
 low-byte-requires : tie.Need-low-byte-requires
 low-byte-requires c κs = search needs
@@ -30,8 +30,9 @@ low-byte-requires-8 : tie.Need-low-byte-requires-8
 low-byte-requires-8 c κs = search needs
 
 returns : tie.Need-returns
-unfolding eightBytes lowBytes
-returns c = cc
+returns c =
+    eight-are _ _ _ _ _ _ _ _ _ (c .before .before .before .before .before .before .before .low-byte .ensures) (c .before .before .before .before .before .before .low-byte2 .ensures) (c .before .before .before .before .before .low-byte3 .ensures) (c .before .before .before .before .low-byte4 .ensures)
+    (c .before .before .before .low-byte5 .ensures) (c .before .before .low-byte6 .ensures) (c .before .low-byte7 .ensures) (c .low-byte8 .ensures)
 
 pub low-byte-first-spec : {M : Type 1} → statement M
 low-byte-first-spec =

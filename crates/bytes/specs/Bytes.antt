@@ -1,7 +1,10 @@
 -- Numbers as bytes.
 -- Assumes nothing.
 use mathlib.Core.List.{List, [], _∷_, _++_}
-use Prim.Native.Nat.{ℕ, zero, suc, _/_, _%_}
+use Prim.Native.Nat.{ℕ, zero, suc, _*_, _/_, _%_}
+use lib.Dec.{ltb}
+use lib.ListN.{length, drop}
+use Rattle.common.specs.Choice.{pick}
 
 -- the k lowest bytes of n, low byte first
 unfoldable pub lowBytes : ℕ → ℕ → List ℕ
@@ -16,3 +19,7 @@ eightBytes n = lowBytes 8 n
 unfoldable pub inBytes : List ℕ → List ℕ
 inBytes [] = []
 inBytes (n ∷ ns) = eightBytes n ++ inBytes ns
+
+-- 8-byte numbers at the front of a buffer; where they have not room, it stays as it is
+unfoldable pub storedIn : (numbers buffer : List ℕ) → List ℕ
+storedIn ns buffer = pick (ltb (length buffer) (8 * length ns)) buffer (inBytes ns ++ drop (8 * length ns) buffer)
