@@ -1,7 +1,7 @@
 // A member's total over a list of contract records.
 ghost use mathlib.Core.Path.{_≡_};
 ghost use Prim.Native.Nat.{_*_, _≤_};
-ghost use Rattle.totals.specs.Total.{refusedWith, openingOf, addOf, memberTotalOf};
+ghost use Rattle.totals.specs.Total.{openingOf, addOf, memberTotalOf};
 use money::PensionPence;
 use records::Contract;
 
@@ -21,32 +21,27 @@ struct Tally {
 // The most records that a total is made of.
 pub const MOST_RECORDS: usize = 64;
 
-fn refused(refusal: u32, index: usize) -> Tally
-    ensures { λ r. ⌜ r ≡ refusedWith refusal index ⌝ }
-{
-    Tally {
-        end: 0,
-        total: Total {
-            refusal,
-            index,
-            credit: PensionPence::none(),
-        },
-    }
-}
-
 // The tally before any of n records.
 fn opening(n: usize) -> Tally
     ensures { λ r. ⌜ r ≡ openingOf n ⌝ }
 {
+    let credit = PensionPence(0);
     if n > MOST_RECORDS {
-        return refused(14, 0);
+        return Tally {
+            end: 0,
+            total: Total {
+                refusal: 14,
+                index: 0,
+                credit,
+            },
+        };
     }
     Tally {
         end: n,
         total: Total {
             refusal: 0,
             index: 0,
-            credit: PensionPence::none(),
+            credit,
         },
     }
 }
@@ -57,17 +52,24 @@ fn add(t: Tally, c: Contract, index: usize) -> Tally
     ensures { λ r. ⌜ r ≡ addOf t c index ⌝ }
 {
     let check = records::check_record(c);
-    if check.bad {
-        return refused(13, index);
-    }
     let sum = t.total.credit;
-    let credit = sum.plus(check.credit);
+    let none = PensionPence(0);
+    if check.bad {
+        return Tally {
+            end: 0,
+            total: Total {
+                refusal: 13,
+                index,
+                credit: none,
+            },
+        };
+    }
     Tally {
         end: t.end,
         total: Total {
             refusal: 0,
             index: 0,
-            credit,
+            credit: sum.plus(check.credit),
         },
     }
 }

@@ -1,24 +1,17 @@
 -- `totals::opening` meets its contract: each return is one case of the definition.
 -- Assumes nothing.
-use borrow.Author.Needs.{needs}
 use Rattle.common.proofs.Tests.{tests}
 use Rattle.totals.specs.Total.{openingOf}
 use Rattle.totals.proofs.opening.Statement.{statement}
 use Rattle.totals.proofs.opening.Tie as tie
 
-refused-requires : tie.Need-refused-requires
-refused-requires c κs = search needs
-
 returns : tie.Need-returns
 unfolding openingOf
-returns c = search (tests, ← c .refused .ensures)
-
-none-requires : tie.Need-none-requires
-none-requires c κs = search needs
+returns c = search tests
 
 returns-2 : tie.Need-returns-2
 unfolding openingOf
-returns-2 c = search (tests, ← c .none .ensures)
+returns-2 c = search tests
 
 pub opening-spec : {M : Type 1} → statement M
-opening-spec = tie.close (tie.spec refused-requires returns none-requires returns-2)
+opening-spec = tie.close (tie.spec returns returns-2)
