@@ -1,8 +1,8 @@
 // Posts histories into records and totals lists of records. Each line written is held to the stored output.
+use by_value::Outcome;
 use election::Terms;
 use records::Contract;
 use records::Posted;
-use by_value::Outcome;
 
 // £1,000 by monthly payments for 5 years, from age 50, with dependant's pension, at pension age 65.
 fn monthly() -> Terms {
