@@ -1,14 +1,19 @@
 -- What a call of a host gives, with a shorter buffer and with one that holds the result.
 -- Assumes nothing.
-use mathlib.Core.List.{List, _++_}
+use mathlib.Core.List.{List, [], _∷_, _++_}
 use mathlib.Core.Path.{_≡_, refl, ap, _∙_}
 use Prim.Native.Nat.{ℕ, _≤_, _<_}
+use native.Mathlib.Omega.{arith}
 use borrow.Author.Tests.{lt-ltb, le-ltb}
-use lib.ListN.{length, drop}
+use lib.ListN.{length, getD, drop}
+use Rattle.bytes.specs.Bytes.{storedIn}
+use Rattle.bytes.proofs.Writing.{stored-front}
 use Rattle.terms.specs.declared.Terms.{Terms}
 use Rattle.quotes.specs.Quote.{QuoteNumbers, quoteOf}
 use Rattle.settlement.specs.Settle.{SettleNumbers, settleOf}
+use Rattle.settlement.proofs.Bounds.{settle-bounds}
 use Rattle.host.specs.Calls.{answerIn, quoteBytes, settleBytes, hostQuoteOf, hostSettleOf}
+use Rattle.host.proofs.QuoteBounds.{quote-bounds}
 
 module _ (size refusal : ℕ) (result buffer : List ℕ) where
   short : length buffer < size
@@ -20,6 +25,19 @@ module _ (size refusal : ℕ) (result buffer : List ℕ) where
       → (refusal ≡ answerIn size refusal result buffer .value) × (result ++ drop size buffer ≡ answerIn size refusal result buffer .buffer)
   unfolding answerIn
   enough h = rw (le-ltb (length buffer) size h) (refl, refl)
+
+-- the value of a call that has room is small
+
+pub quote-value-most : (t : Terms) (existing last : ℕ) {n : QuoteNumbers} {told : List ℕ} → n ≡ quoteOf t existing last
+    → told ≡ n .refusal ∷ n .contribution ∷ n .next ∷ [] → getD told 0 0 ≤ 9
+quote-value-most t existing last is e =
+    omega
+    (arith, ap (λ (l : List ℕ). getD l 0 0) e, ap (λ (n : QuoteNumbers). n .refusal) is, quote-bounds t existing last .refusal-most)
+
+pub settle-value-most : (t : Terms) (marks : List ℕ) {n : SettleNumbers} → n ≡ settleOf t marks → n .refusal ≤ 12
+settle-value-most t marks is = omega (arith, ap (λ (n : SettleNumbers). n .refusal) is, settle-bounds t marks .refusal-most)
+
+-- what is told
 
 module _ (t : Terms) (existing last : ℕ) (buffer : List ℕ) where
   pub quote-short : length buffer < 24
@@ -37,6 +55,14 @@ module _ (t : Terms) (existing last : ℕ) (buffer : List ℕ) where
         told .1 ∙ ap (λ (n : QuoteNumbers). quoteBytes n ++ drop 24 buffer) is ∙ whole .1,
       )
 
+  -- where the numbers of the quote are stored, in their order
+  pub quote-told : {n : QuoteNumbers} {told after : List ℕ} → 24 ≤ length buffer → n ≡ quoteOf t existing last
+      → told ≡ n .refusal ∷ n .contribution ∷ n .next ∷ [] → after ≡ storedIn told buffer
+      → (getD told 0 0 ≡ hostQuoteOf t existing last buffer .value) × (after ≡ hostQuoteOf t existing last buffer .buffer)
+  unfolding quoteBytes
+  quote-told h is e stored =
+      quote-enough h is (ap (λ (l : List ℕ). getD l 0 0) e, stored ∙ ap (λ (l : List ℕ). storedIn l buffer) e ∙ stored-front _ buffer h)
+
 module _ (t : Terms) (marks buffer : List ℕ) where
   pub settle-short : length buffer < 48
       → (14 ≡ hostSettleOf t marks buffer .value) × (buffer ≡ hostSettleOf t marks buffer .buffer)
@@ -52,3 +78,10 @@ module _ (t : Terms) (marks buffer : List ℕ) where
         told .0 ∙ ap (λ (n : SettleNumbers). n .refusal) is ∙ whole .0,
         told .1 ∙ ap (λ (n : SettleNumbers). settleBytes n ++ drop 48 buffer) is ∙ whole .1,
       )
+
+  -- where the numbers of the settlement are stored, in their order
+  pub settle-told : {n : SettleNumbers} {after : List ℕ} → 48 ≤ length buffer → n ≡ settleOf t marks
+      → after ≡ storedIn (n .refusal ∷ n .place ∷ n .contribution ∷ n .status ∷ n .credit ∷ n .refund ∷ []) buffer
+      → (n .refusal ≡ hostSettleOf t marks buffer .value) × (after ≡ hostSettleOf t marks buffer .buffer)
+  unfolding settleBytes
+  settle-told h is stored = settle-enough h is (refl, stored ∙ stored-front _ buffer h)

@@ -1,4 +1,3 @@
-pub mod Writing
-pub mod Calls
 pub mod QuoteBounds
+pub mod Calls
 pub mod Reading

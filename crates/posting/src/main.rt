@@ -1,10 +1,10 @@
 // Posts histories into records and totals lists of records. Each line written is held to the stored output.
 mod cases;
 
+use by_value::Outcome;
 use terms::Terms;
 use records::Contract;
 use records::Posted;
-use records::by_value::Outcome;
 
 // From age 50, with dependant's pension, at pension age 65: by monthly payments, or at term 0 by a lump sum.
 fn terms(term: u32, amount: u32) -> Terms {
@@ -38,7 +38,7 @@ fn times(o: Outcome, mark: u8, n: u8) -> Outcome {
     let mut i = 0;
     while i < n {
         let c = out.contract;
-        out = records::by_value::post_into(c, mark);
+        out = by_value::post_into(c, mark);
         i += 1;
     }
     out
@@ -138,7 +138,7 @@ fn outside_records() {
 
 // The total over the first n records.
 fn total(list: [Contract; 65], n: usize) {
-    let t = records::by_value::total_of_first(list, n);
+    let t = by_value::total_of_first(list, n);
     column(7, n as u64);
     column(28, t.refusal as u64);
     column(6, t.index as u64);

@@ -1,21 +1,25 @@
 -- A record is bad by any of three faults, and not bad where it has none.
 -- Assumes nothing.
 use mathlib.Core.Bool.{Bool, true, false, not, _||_}
-use mathlib.Core.Path.{_≡_, refl, sym, ap, _∙_}
-use Prim.Native.Nat.{ℕ, _<_, _≤_}
-use native.Mathlib.Decide.{ℕ-discrete}
-use borrow.Author.Tests.{lt-ltb, le-ltb, eq-eqb, ne-eqb, ltb-false, eqb-true, not-false}
+use mathlib.Core.Path.{_≡_, refl, ap, _∙_}
+use Prim.Native.Nat.{_<_, _≤_}
+use borrow.Author.Tests.{lt-ltb, le-ltb, eq-eqb, ne-eqb, ltb-false, eqb-true, eqb-false, not-false}
 use lib.Dec.{ltb, eqb}
-use Rattle.common.proofs.Tests.{or-false}
+use Rattle.common.proofs.Tests.{or-false, by-test}
 use Rattle.money.specs.Money.{pension}
-use Rattle.money.specs.declared.PensionPence.{PensionPence}
+use Rattle.settlement.specs.Settle.{SettleNumbers}
+use Rattle.settlement.proofs.Laws.{settle-refused, settle-refusal}
 use Rattle.records.specs.declared.Contract.{Contract}
 use Rattle.records.specs.declared.RecordCheck.{RecordCheck}
-use Rattle.records.specs.Record.{unusedMarks, settledRecord, allZero, badRecord, checkOf}
+use Rattle.records.specs.Record.{usedMarks, unusedMarks, settledRecord, allZero, badRecord, checkOf}
 
 or-true : (a : Bool) → (a || true) ≡ true
 or-true true = refl
 or-true false = refl
+
+-- what the check answers where Settle gives these numbers
+abbrev answerOf : SettleNumbers → RecordCheck
+answerOf n = record { bad = not (eqb (n .refusal) 0); credit = pension (n .credit) }
 
 module _ (c : Contract) where
   pub refused-bad : (settledRecord c .refusal ≡ 0 → ⊥) → badRecord c ≡ true
@@ -57,21 +61,20 @@ module _ (c : Contract) where
   unfolding checkOf
   bad-check e = rw e
 
-  pub good-check : Good → (k : PensionPence) → k .0 ≡ settledRecord c .credit
-      → _≡_ {A = RecordCheck} (record { bad = false; credit = k }) (checkOf c)
+  -- what Settle says of the marks in use decides, where the other two faults are not there
+  settled-check : c .count ≤ 240 → allZero (unusedMarks c) ≡ true → answerOf (settledRecord c) ≡ checkOf c
   unfolding checkOf
-  good-check g k d = rw (good-record g, ← d)
+  settled-check few zeros =
+      by-test (eqb (settledRecord c .refusal) 0)
+      (λ z.
+      rw (z, good-record (record { settled = eqb-true _ _ z; few = few; zeros = zeros })))
+      (λ z.
+      let some = eqb-false (settledRecord c .refusal) 0 z in
+      let none = ap (λ (n : SettleNumbers). n .credit) (settle-refused (c .terms) (usedMarks c) (λ e. some (settle-refusal (c .terms) (usedMarks c) ∙ e))) in
+      rw (z, refused-bad some, none))
 
-  -- goes by the number of Settle's refusal, whatever it is
-  pub told-check : (n : ℕ) (k : PensionPence) → c .count ≤ 240 → allZero (unusedMarks c) ≡ true
-      → n ≡ settledRecord c .refusal → 0 ≡ settledRecord c .credit → k ≡ pension 0
-      → _≡_ {A = RecordCheck} (record { bad = not (eqb n 0); credit = k }) (checkOf c)
-  told-check n k few zeros e d z = rw z (go (ℕ-discrete n 0))
-    where
-      go : Dec (n ≡ 0) → _≡_ {A = RecordCheck} (record { bad = not (eqb n 0); credit = pension 0 }) (checkOf c)
-      go (yes none) =
-          rw (eq-eqb n 0 none) (good-check (record { settled = sym e ∙ none; few = few; zeros = zeros }) (pension 0) d)
-      go (no some) = rw (ne-eqb n 0 some) (bad-check (refused-bad (λ z. some (e ∙ z))))
+  pub told-check : (n : SettleNumbers) → n ≡ settledRecord c → c .count ≤ 240 → allZero (unusedMarks c) ≡ true → answerOf n ≡ checkOf c
+  told-check n e few zeros = ap answerOf e ∙ settled-check few zeros
 
   pub check-bad : {r : RecordCheck} → r ≡ checkOf c → r .bad ≡ badRecord c
   unfolding checkOf

@@ -3,6 +3,4 @@ pub mod Bad
 pub mod Cells
 pub mod Posting
 pub mod Element
-pub mod Adding
 pub mod History
-pub mod First

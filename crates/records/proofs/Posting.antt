@@ -83,18 +83,14 @@ module _ (c : Contract) (m : ℕ) where
 -- What posting answers and leaves.
 
 module _ (c : Contract) (m : ℕ) where
-  pub success-answer : postRefusal c m ≡ 0 → _≡_ {A = Posted} (record { refusal = 0; place = 0 }) (postOf c m)
-  unfolding postOf placeOf
-  success-answer z = rw z
-
   pub success-record : postRefusal c m ≡ 0 → written c (c .count) m (c .count + 1) ≡ postedRecord c m
   unfolding postedRecord
   success-record z = rw (eq-eqb (postRefusal c m) 0 z)
 
-  pub refusal-answer : (n p : ℕ) → n ≡ postRefusal c m → p ≡ placeOf n (c .count)
+  pub answered : (n p : ℕ) → n ≡ postRefusal c m → p ≡ placeOf n (c .count)
       → _≡_ {A = Posted} (record { refusal = n; place = p }) (postOf c m)
   unfolding postOf
-  refusal-answer n p e d = rw (d, e)
+  answered n p e d = rw (d, e)
 
   pub refusal-record : (postRefusal c m ≡ 0 → ⊥) → postedRecord c m ≡ c
   unfolding postedRecord

@@ -1,4 +1,3 @@
 pub mod Record
 pub mod Post
-pub mod Total
 pub mod History

@@ -1,17 +1,10 @@
-// The contract record: posting a month in its own memory, and a member's total over a list of records.
-ghost use mathlib.Core.Bool.{true};
+// The contract record, and posting a month in its own memory.
 ghost use mathlib.Core.Path.{_≡_};
-ghost use Prim.Native.Nat.{_*_, _≤_};
-ghost use Rattle.money.specs.Money.{pension};
+ghost use lib.ListN.{drop};
 ghost use Rattle.records.specs.Record.{allZero, checkOf};
 ghost use Rattle.records.specs.Post.{postRefusal, placeOf, postOf, postedRecord, Decided};
-ghost use Rattle.records.specs.Total.{refusedWith, openingOf, addOf, memberTotalOf};
-
-pub mod by_value;
-
 use terms::Terms;
 use money::PensionPence;
-use settlement::Settlement;
 
 // The marks before the count are in use; the others are 0.
 pub struct Contract {
@@ -40,26 +33,11 @@ struct Entry {
     posted: Posted,
 }
 
-// What a total answers; the index is that of a bad record.
-pub struct Total {
-    pub refusal: u32,
-    pub index: usize,
-    pub credit: PensionPence,
-}
-
-// A total so far, and the index at which the records to be added end; a refusal leaves none.
-struct Tally {
-    end: usize,
-    total: Total,
-}
-
-// The most records that a total is made of.
-pub const MOST_RECORDS: usize = 64;
-
-fn all_zero(marks: &[u8]) -> bool
-    ensures { λ r. ⌜ r ≡ allZero (now (marks .entry)) ⌝ }
+// Whether the marks from an index on are 0.
+fn all_zero(marks: &[u8], from: usize) -> bool
+    ensures { λ r. ⌜ r ≡ allZero (drop from (now (marks .entry))) ⌝ }
 {
-    let mut i = 0;
+    let mut i = from;
     while i < marks.len() {
         if marks[i] != 0 {
             return false;
@@ -69,15 +47,6 @@ fn all_zero(marks: &[u8]) -> bool
     true
 }
 
-fn bad_record() -> RecordCheck
-    ensures { λ r. ⌜ r ≡ record { bad = true; credit = pension 0 } ⌝ }
-{
-    RecordCheck {
-        bad: true,
-        credit: PensionPence::none(),
-    }
-}
-
 // The check of a record that posting and the total both make.
 pub fn check_record(c: Contract) -> RecordCheck
     ensures { λ r. ⌜ r ≡ checkOf c ⌝ }
@@ -85,23 +54,21 @@ pub fn check_record(c: Contract) -> RecordCheck
     let count = c.count;
     let marks = c.marks;
     if count > 240 {
-        return bad_record();
+        return RecordCheck {
+            bad: true,
+            credit: PensionPence(0),
+        };
     }
-    if !all_zero(&marks[count..]) {
-        return bad_record();
+    if !all_zero(&marks, count) {
+        return RecordCheck {
+            bad: true,
+            credit: PensionPence(0),
+        };
     }
-    let terms = c.terms;
-    match settlement::settle(terms, &marks[..count]) {
-        Settlement::Refused { refusal, place: _ } => RecordCheck {
-            bad: refusal != 0,
-            credit: PensionPence::none(),
-        },
-        Settlement::Settled {
-            contribution: _,
-            status: _,
-            credit,
-            refund: _,
-        } => RecordCheck { bad: false, credit },
+    let n = numbers::numbers_of(settlement::settle(c.terms, &marks[..count]));
+    RecordCheck {
+        bad: n.refusal != 0,
+        credit: PensionPence(n.credit),
     }
 }
 
@@ -113,8 +80,7 @@ fn refuse_post(c: Contract, mark: u8) -> u32
     if check.bad {
         return 13;
     }
-    let terms = c.terms;
-    let term = terms.term;
+    let term = c.terms.term;
     let count = c.count;
     let marks = c.marks;
     if count >= 12 * (term as usize) {
@@ -142,24 +108,25 @@ fn decide(c: Contract, mark: u8) -> Entry
 {
     let refusal = refuse_post(c, mark);
     let count = c.count;
-    let marks = c.marks;
+    let posted = Posted {
+        refusal,
+        place: place(refusal, count),
+    };
     if refusal == 0 {
+        let next = count + 1;
         return Entry {
             at: count,
             mark,
-            count: count + 1,
-            posted: Posted {
-                refusal: 0,
-                place: 0,
-            },
+            count: next,
+            posted,
         };
     }
-    let place = place(refusal, count);
+    let marks = c.marks;
     Entry {
         at: 0,
         mark: marks[0],
         count,
-        posted: Posted { refusal, place },
+        posted,
     }
 }
 
@@ -173,69 +140,4 @@ pub fn post(c: &mut Contract, mark: u8) -> Posted
     c.marks[at] = entry.mark;
     c.count = entry.count;
     entry.posted
-}
-
-fn refused(refusal: u32, index: usize) -> Tally
-    ensures { λ r. ⌜ r ≡ refusedWith refusal index ⌝ }
-{
-    Tally {
-        end: 0,
-        total: Total {
-            refusal,
-            index,
-            credit: PensionPence::none(),
-        },
-    }
-}
-
-// The tally before any of n records.
-fn opening(n: usize) -> Tally
-    ensures { λ r. ⌜ r ≡ openingOf n ⌝ }
-{
-    if n > MOST_RECORDS {
-        return refused(14, 0);
-    }
-    Tally {
-        end: n,
-        total: Total {
-            refusal: 0,
-            index: 0,
-            credit: PensionPence::none(),
-        },
-    }
-}
-
-// The tally with the record at an index.
-fn add(t: Tally, c: Contract, index: usize) -> Tally
-    requires { ⌜ t .total .credit .0 ≤ 64 * 650000 ⌝ }
-    ensures { λ r. ⌜ r ≡ addOf t c index ⌝ }
-{
-    let check = check_record(c);
-    if check.bad {
-        return refused(13, index);
-    }
-    let sum = t.total.credit;
-    let credit = sum.plus(check.credit);
-    Tally {
-        end: t.end,
-        total: Total {
-            refusal: 0,
-            index: 0,
-            credit,
-        },
-    }
-}
-
-// Adds the credits of the lent records in list order.
-pub fn member_total(records: &[Contract]) -> Total
-    ensures { λ r. ⌜ r ≡ memberTotalOf (now (records .entry)) ⌝ }
-{
-    let mut t = opening(records.len());
-    let mut i = 0;
-    while i < t.end {
-        let c = records[i];
-        t = add(t, c, i);
-        i += 1;
-    }
-    t.total
 }

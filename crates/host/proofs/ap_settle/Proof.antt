@@ -1,33 +1,52 @@
--- `host::ap_settle` meets its contract: a shorter buffer is left as it was; else the numbers of Settle are written.
+-- `host::ap_settle` meets its contract: a shorter buffer is left as it was; else the numbers of Settle are stored.
 -- Assumes nothing.
-use Prim.Native.Nat.{_<_}
+use mathlib.Core.Path.{_∙_}
 use native.Mathlib.Omega.{arith}
 use borrow.Author.Needs.{needs}
-use denote.Ref.{now}
-use lib.ListN.{length}
-use Rattle.host.proofs.Calls.{settle-short, settle-enough}
+use Rattle.host.proofs.Calls.{settle-short, settle-value-most, settle-told}
 use Rattle.host.proofs.ap_settle.Statement.{statement}
 use Rattle.host.proofs.ap_settle.Tie as tie
 
 returns : tie.Need-returns
-returns c =
-    let few : length (now (c .before .before .before .args .out)) < 48 = omega arith in
-    settle-short _ _ _ few
+returns c = settle-short _ _ _ (c .if1 .taken)
 
 settle-requires : tie.Need-settle-requires
 settle-requires c κs = search needs
 
-tell-settlement-requires : tie.Need-tell-settlement-requires
-tell-settlement-requires c κs = search needs
+numbers-of-requires : tie.Need-numbers-of-requires
+numbers-of-requires c κs = search needs
+
+slice-aggregate-put-all : tie.Need-slice-aggregate-put-all
+slice-aggregate-put-all c = search needs
+
+put-all-requires : tie.Need-put-all-requires
+put-all-requires c κs = search needs
+
+-- a refusal is at most 12
+cast-result : tie.Need-cast-result
+cast-result c =
+    let d = c .before .before .before .before .before .before in
+    let most = settle-value-most _ _ (d .numbers-of .ensures ∙ d .before .settle .ensures .0) in
+    omega (arith, most)
 
 same-length : tie.Need-same-length
 same-length c = search needs
 
 returns-2 : tie.Need-returns-2
 returns-2 c =
-    settle-enough _ _ _ (c .before .before .before .before .before .if1 .left) (c .before .before .before .settle .ensures .0)
-    (c .before .before .tell-settlement .ensures)
+    let d = c .before .before .before .before .before .before in
+    settle-told _ _ _ (d .before .before .if1 .left) (d .numbers-of .ensures ∙ d .before .settle .ensures .0)
+    (c .before .before .before .put-all .ensures)
 
 pub ap-settle-spec : {M : Type 1} → statement M
 ap-settle-spec =
-    tie.close (tie.spec returns settle-requires tell-settlement-requires same-length returns-2)
+    tie.close
+    (tie.spec
+    returns
+    settle-requires
+    numbers-of-requires
+    slice-aggregate-put-all
+    put-all-requires
+    cast-result
+    same-length
+    returns-2)

@@ -4,33 +4,32 @@ use mathlib.Core.Path.{sym, _∙_}
 use native.Mathlib.Omega.{arith}
 use borrow.Author.Needs.{needs}
 use Rattle.records.proofs.Cells.{marks-length}
-use Rattle.records.proofs.Posting.{taken, success-answer, success-record, refusal-answer, refusal-record, unchanged}
+use Rattle.records.proofs.Posting.{taken, answered, success-record, refusal-record, unchanged}
 use Rattle.records.proofs.decide.Statement.{statement}
 use Rattle.records.proofs.decide.Tie as tie
 
 refuse-post-requires : tie.Need-refuse-post-requires
 refuse-post-requires c κs = search needs
 
-add-t8 : tie.Need-add-t8
-add-t8 c =
+place-requires : tie.Need-place-requires
+place-requires c κs = search needs
+
+add-next : tie.Need-add-next
+add-next c =
     let start = c .before .before .before in
-    let full = marks-length (start .args .c) (start .good .0) in
     let none = sym (c .before .before .refuse-post .ensures) ∙ c .if1 .taken in
-    omega (arith, taken (start .args .c) (start .args .mark) full none .room)
+    omega (arith, taken (start .args .c) (start .args .mark) (marks-length (start .args .c) (start .good .0)) none .room)
 
 returns : tie.Need-returns
 returns c =
     let start = c .before .before .before in
-    let full = marks-length (start .args .c) (start .good .0) in
-    let none = sym (c .before .before .refuse-post .ensures) ∙ c .if1 .taken in
+    let e = c .before .before .refuse-post .ensures in
+    let none = sym e ∙ c .if1 .taken in
     record {
-      inside = taken (start .args .c) (start .args .mark) full none .room;
-      answer = success-answer (start .args .c) (start .args .mark) none;
+      inside = taken (start .args .c) (start .args .mark) (marks-length (start .args .c) (start .good .0)) none .room;
+      answer = answered (start .args .c) (start .args .mark) _ _ e (c .before .place .ensures);
       makes = success-record (start .args .c) (start .args .mark) none;
     }
-
-place-requires : tie.Need-place-requires
-place-requires c κs = search needs
 
 array-read-t12 : tie.Need-array-read-t12
 array-read-t12 c = search needs
@@ -41,7 +40,7 @@ returns-2 c =
     let e = c .before .before .before .refuse-post .ensures in
     record {
       inside = omega arith;
-      answer = refusal-answer (start .args .c) (start .args .mark) _ _ e (c .place .ensures);
+      answer = answered (start .args .c) (start .args .mark) _ _ e (c .before .before .place .ensures);
       makes =
           unchanged (start .args .c) (start .args .mark) 0
           ∙ sym (refusal-record (start .args .c) (start .args .mark) (λ z. c .before .if1 .left (e ∙ z)));
@@ -50,4 +49,4 @@ returns-2 c =
 pub decide-spec : {M : Type 1} → statement M
 decide-spec =
     tie.close
-    (tie.spec refuse-post-requires add-t8 returns place-requires array-read-t12 returns-2)
+    (tie.spec refuse-post-requires place-requires add-next returns array-read-t12 returns-2)

@@ -25,21 +25,21 @@ mul-if2 c = search needs
 
 returns-2 : tie.Need-returns-2
 returns-2 c =
-    let d = c .before .before .before in
+    let d = c .before .before in
     let start = d .before .before in
     sym (over-refused _ _ (marks-length (start .args .c) (start .good .0))
     (sym (check-bad _ (d .before .check-record .ensures)) ∙ d .if1 .left) (c .if2 .taken))
 
 array-share-prefix-marks : tie.Need-array-share-prefix-marks
 array-share-prefix-marks c =
-    let d = c .before .before .before in
+    let d = c .before .before in
     let start = d .before .before in
     let good = not-bad (start .args .c) (sym (check-bad _ (d .before .check-record .ensures)) ∙ d .if1 .left) in
     omega (arith, good .few, marks-length (start .args .c) (start .good .0))
 
 slice-aggregate-read-marks : tie.Need-slice-aggregate-read-marks
 slice-aggregate-read-marks c =
-    let d = c .before .before .before .before in
+    let d = c .before .before .before in
     let start = d .before .before in
     sym (used-length (start .args .c) (start .args .mark) (marks-length (start .args .c) (start .good .0))
     (sym (check-bad _ (d .before .check-record .ensures)) ∙ d .if1 .left))
@@ -52,7 +52,7 @@ step-requires c κs = search needs
 
 returns-3 : tie.Need-returns-3
 returns-3 c =
-    let d = c .before .before .before .before .before .before in
+    let d = c .before .before .before .before .before in
     let start = d .before .before in
     ap (λ (r : Reading). r .refusal) (c .step .ensures)
     ∙ ap (λ (r : Reading). stepBy oneMore r (start .args .mark) .refusal) (c .before .read-marks .ensures)

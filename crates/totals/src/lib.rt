@@ -1,0 +1,90 @@
+// A member's total over a list of contract records.
+ghost use mathlib.Core.Path.{_≡_};
+ghost use Prim.Native.Nat.{_*_, _≤_};
+ghost use Rattle.money.specs.Limits.{capPence};
+ghost use Rattle.totals.specs.Total.{openingOf, addOf, memberTotalOf};
+use money::PensionPence;
+use records::Contract;
+
+// What a total answers; the index is that of a bad record.
+pub struct Total {
+    pub refusal: u32,
+    pub index: usize,
+    pub credit: PensionPence,
+}
+
+// A total so far, and the index at which the records to be added end; a refusal leaves none.
+struct Tally {
+    end: usize,
+    total: Total,
+}
+
+// The most records that a total is made of.
+pub const MOST_RECORDS: usize = 64;
+
+// The tally before any of n records.
+fn opening(n: usize) -> Tally
+    ensures { λ r. ⌜ r ≡ openingOf n ⌝ }
+{
+    let credit = PensionPence(0);
+    if n > MOST_RECORDS {
+        return Tally {
+            end: 0,
+            total: Total {
+                refusal: 14,
+                index: 0,
+                credit,
+            },
+        };
+    }
+    Tally {
+        end: n,
+        total: Total {
+            refusal: 0,
+            index: 0,
+            credit,
+        },
+    }
+}
+
+// The tally with the record at an index.
+fn add(t: Tally, c: Contract, index: usize) -> Tally
+    requires { ⌜ t .total .credit .0 ≤ 64 * capPence ⌝ }
+    ensures { λ r. ⌜ r ≡ addOf t c index ⌝ }
+{
+    let check = records::check_record(c);
+    let sum = t.total.credit;
+    let none = PensionPence(0);
+    if check.bad {
+        return Tally {
+            end: 0,
+            total: Total {
+                refusal: 13,
+                index,
+                credit: none,
+            },
+        };
+    }
+    Tally {
+        end: t.end,
+        total: Total {
+            refusal: 0,
+            index: 0,
+            credit: sum.plus(check.credit),
+        },
+    }
+}
+
+// Adds the credits of the lent records in list order.
+pub fn member_total(records: &[Contract]) -> Total
+    ensures { λ r. ⌜ r ≡ memberTotalOf (now (records .entry)) ⌝ }
+{
+    let mut t = opening(records.len());
+    let mut i = 0;
+    while i < t.end {
+        let c = records[i];
+        t = add(t, c, i);
+        i += 1;
+    }
+    t.total
+}
