@@ -5,26 +5,12 @@ use mathlib.Core.List.{List, [], _∷_, _++_}
 use mathlib.Core.Path.{_≡_}
 use Prim.Native.Nat.{ℕ, _-_, _≤_, _<_}
 use lib.ListN.{length, getD, take, drop}
-use Rattle.settlement.specs.Settle.{SettleNumbers}
-use Rattle.casefile.specs.declared.line.Figures.{Figures}
 use Rattle.casefile.specs.Shape.{allDigits, marksIn}
 
 -- whether all are digits, and their numbers where they are
 pub record MarksTold (digits marks : List ℕ) (r : Bool) : Type 0 where
   pub told : r ≡ allDigits digits
   pub are : r ≡ true → take (length digits) marks ≡ marksIn digits
-
--- the figures of a line as Settle's numbers
-abbrev pub figuresOf : Figures → SettleNumbers
-figuresOf f =
-    record {
-      refusal = f .refusal;
-      place = f .place;
-      contribution = f .contribution;
-      status = f .status;
-      credit = f .credit;
-      refund = f .refund;
-    }
 
 -- no byte ends a line
 pub data NoEnd : List ℕ → Type 0 where

@@ -2,12 +2,12 @@
 ghost use mathlib.Core.Path.{_≡_};
 ghost use Prim.Native.Nat.{_≤_};
 ghost use lib.ListN.{length};
-ghost use Rattle.settlement.specs.Settle.{numbersOf};
+ghost use Rattle.numbers.specs.Numbers.{numbersIn};
 ghost use Rattle.casefile.specs.Shape.{fieldsOf};
 ghost use Rattle.casefile.specs.Line.{listedAs, wrongShape, lineOf};
-ghost use Rattle.casefile.specs.Told.{MarksTold, figuresOf};
+ghost use Rattle.casefile.specs.Told.{MarksTold};
 use election::Terms;
-use settlement::Settlement;
+use numbers::Numbers;
 use text::Field;
 
 // What the fields before the marks say.
@@ -19,16 +19,6 @@ pub struct Case {
 pub enum Fields {
     Whole(Case),
     WrongShape,
-}
-
-// What a line of the listing says after its election number.
-pub struct Figures {
-    pub refusal: u64,
-    pub place: u64,
-    pub contribution: u64,
-    pub status: u64,
-    pub credit: u64,
-    pub refund: u64,
 }
 
 // The bytes before the marks.
@@ -97,45 +87,17 @@ fn read_marks(digits: &[u8], marks: &mut [u8]) -> bool
     true
 }
 
-fn figures_of(answer: Settlement) -> Figures
-    ensures { λ r. ⌜ figuresOf r ≡ numbersOf answer ⌝ }
-{
-    match answer {
-        Settlement::Refused { refusal, place } => Figures {
-            refusal: refusal as u64,
-            place: place as u64,
-            contribution: 0,
-            status: 0,
-            credit: 0,
-            refund: 0,
-        },
-        Settlement::Settled {
-            contribution,
-            status,
-            credit,
-            refund,
-        } => Figures {
-            refusal: 0,
-            place: 0,
-            contribution: contribution.0,
-            status: status as u64,
-            credit: credit.0,
-            refund: refund.0,
-        },
-    }
-}
-
-fn listed(election: u32, f: Figures) -> [u8; 46]
-    ensures { λ r. ⌜ r ≡ listedAs election (figuresOf f) ⌝ }
+fn listed(election: u32, n: Numbers) -> [u8; 46]
+    ensures { λ r. ⌜ r ≡ listedAs election (numbersIn n) ⌝ }
 {
     let mut row = [b'\n'; 46];
     text::put_number(&mut row, 0, 6, election as u64);
-    text::put_number(&mut row, 6, 3, f.refusal);
-    text::put_number(&mut row, 9, 4, f.place);
-    text::put_number(&mut row, 13, 2, f.status);
-    text::put_number(&mut row, 15, 10, f.contribution);
-    text::put_number(&mut row, 25, 10, f.credit);
-    text::put_number(&mut row, 35, 10, f.refund);
+    text::put_number(&mut row, 6, 3, n.refusal);
+    text::put_number(&mut row, 9, 4, n.place);
+    text::put_number(&mut row, 13, 2, n.status);
+    text::put_number(&mut row, 15, 10, n.contribution);
+    text::put_number(&mut row, 25, 10, n.credit);
+    text::put_number(&mut row, 35, 10, n.refund);
     row[45] = b'\n';
     row
 }
@@ -145,7 +107,7 @@ fn wrong_shape() -> [u8; 46]
 {
     listed(
         0,
-        Figures {
+        Numbers {
             refusal: 15,
             place: 0,
             contribution: 0,
@@ -175,7 +137,7 @@ pub fn settle_line(line: &[u8]) -> [u8; 46]
         let count = line.len() - FIELDS;
         let election = case.election;
         let answer = settlement::settle(case.terms, &marks[..count]);
-        return listed(election, figures_of(answer));
+        return listed(election, numbers::numbers_of(answer));
     }
     wrong_shape()
 }

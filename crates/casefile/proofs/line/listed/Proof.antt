@@ -66,12 +66,12 @@ returns c =
     let x = z1 .before .before .args in
     let f0 = nothing-filled _ refl in
     let f1 = column-filled 6 (x .election) f0 (z1 .put-number .ensures) (lit≤ tt) in
-    let f2 = column-filled 3 (x .f .refusal) f1 (z2 .put-number2 .ensures) (lit≤ tt) in
-    let f3 = column-filled 4 (x .f .place) f2 (z3 .put-number3 .ensures) (lit≤ tt) in
-    let f4 = column-filled 2 (x .f .status) f3 (z4 .put-number4 .ensures) (lit≤ tt) in
-    let f5 = column-filled 10 (x .f .contribution) f4 (z5 .put-number5 .ensures) (lit≤ tt) in
-    let f6 = column-filled 10 (x .f .credit) f5 (z6 .put-number6 .ensures) (lit≤ tt) in
-    let f7 = column-filled 10 (x .f .refund) f6 (z7 .put-number7 .ensures) (lit≤ tt) in
+    let f2 = column-filled 3 (x .n .refusal) f1 (z2 .put-number2 .ensures) (lit≤ tt) in
+    let f3 = column-filled 4 (x .n .place) f2 (z3 .put-number3 .ensures) (lit≤ tt) in
+    let f4 = column-filled 2 (x .n .status) f3 (z4 .put-number4 .ensures) (lit≤ tt) in
+    let f5 = column-filled 10 (x .n .contribution) f4 (z5 .put-number5 .ensures) (lit≤ tt) in
+    let f6 = column-filled 10 (x .n .credit) f5 (z6 .put-number6 .ensures) (lit≤ tt) in
+    let f7 = column-filled 10 (x .n .refund) f6 (z7 .put-number7 .ensures) (lit≤ tt) in
     line-ended f7
 
 pub listed-spec : {M : Type 1} → statement M

@@ -67,8 +67,8 @@ slice-aggregate-settle c = sym (length-take-le _ _ (omega (arith, c .before .bef
 settle-requires : tie.Need-settle-requires
 settle-requires c κs = search needs
 
-figures-of-requires : tie.Need-figures-of-requires
-figures-of-requires c κs = search needs
+numbers-of-requires : tie.Need-numbers-of-requires
+numbers-of-requires c κs = search needs
 
 listed-requires : tie.Need-listed-requires
 listed-requires c κs = search needs
@@ -81,7 +81,7 @@ returns-4 c =
     let fields = sym (f .read-fields .ensures) ∙ m .before .before .before .before .case .given .1 in
     let told = marks-told line _ _ (m .read-marks .ensures) in
     let right = c .before .before .before .before .if3 .taken in
-    let numbers = c .before .figures-of .ensures ∙ c .before .before .settle .ensures .0 in
+    let numbers = c .before .numbers-of .ensures ∙ c .before .before .settle .ensures .0 in
     c .listed .ensures ∙ ap (listedAs _) numbers
     ∙ sym (settled line (f .before .before .if1 .left) (f .before .if2 .left) fields _ right told)
 
@@ -119,7 +119,7 @@ settle-line-spec =
     array-share-prefix-marks
     slice-aggregate-settle
     settle-requires
-    figures-of-requires
+    numbers-of-requires
     listed-requires
     returns-4
     wrong-shape-requires-4

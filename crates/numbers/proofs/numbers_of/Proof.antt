@@ -1,10 +1,10 @@
--- `casefile::line::figures_of` meets its contract.
+-- `numbers::numbers_of` meets its contract.
 -- Assumes nothing.
 use mathlib.Core.Path.{_≡_, sym, ap}
 use Rattle.settlement.specs.Settle.{numbersOf}
 use borrow.Author.Needs.{needs}
-use Rattle.casefile.proofs.line.figures_of.Statement.{statement}
-use Rattle.casefile.proofs.line.figures_of.Tie as tie
+use Rattle.numbers.proofs.numbers_of.Statement.{statement}
+use Rattle.numbers.proofs.numbers_of.Tie as tie
 
 enum-known-answer : tie.Need-enum-known-answer
 enum-known-answer c = search needs
@@ -24,6 +24,6 @@ returns c = sym (ap numbersOf (c .before .answer .given .1))
 returns-2 : tie.Need-returns-2
 returns-2 c = sym (ap numbersOf (c .before .answer2 .given .1))
 
-pub figures-of-spec : {M : Type 1} → statement M
-figures-of-spec =
+pub numbers-of-spec : {M : Type 1} → statement M
+numbers-of-spec =
     tie.close (tie.spec enum-known-answer cast-t9 enum-known-answer-2 cast-t11 returns returns-2)
