@@ -10,10 +10,10 @@ use lib.Dec.{ltb, eqb}
 use lib.ListN.{length, take, length-take}
 use lib.Seq.{take-all, take-take, length-take-le}
 use Rattle.common.specs.Choice.{pick}
-use Rattle.casefile.specs.Line.{lineOf}
+use Rattle.case_line.specs.Line.{lineOf}
 use Rattle.casefile.specs.File.{lastLine, linesAfter, listLines, listingOf}
 use Rattle.casefile.specs.Stream.{openAfter, writtenBy, writtenAtEnd, writtenThrough, fileOf}
-use Rattle.casefile.proofs.Shapes.{long}
+use Rattle.case_line.proofs.Shapes.{long}
 
 -- both ways of a test
 by-test : (t : Bool) (P : Bool → Type 0) → P true → P false → P t

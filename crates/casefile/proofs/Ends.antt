@@ -7,7 +7,7 @@ use native.Mathlib.Omega.{arith}
 use borrow.Author.Tests.{ne-eqb}
 use lib.ListN.{length, getD, take, drop, length-drop}
 use lib.Seq.{take-suc, take-add, drop-drop, getD-drop, split-at, append-snoc, length-take-le}
-use Rattle.casefile.specs.Line.{lineOf}
+use Rattle.case_line.specs.Line.{lineOf}
 use Rattle.casefile.specs.Stream.{openAfter, writtenBy, takenWith}
 use Rattle.casefile.specs.Told.{NoEnd, none, more}
 use Rattle.casefile.proofs.Chunks.{open-append, written-append}

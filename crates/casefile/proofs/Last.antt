@@ -6,10 +6,10 @@ use Prim.Native.Nat.{ℕ, zero, suc, _≤_, _<_}
 use native.Mathlib.Omega.{arith}
 use lib.ListN.{length, take}
 use lib.Seq.{take-all, length-take-le}
-use Rattle.casefile.specs.Line.{lineOf}
+use Rattle.case_line.specs.Line.{lineOf}
 use Rattle.casefile.specs.File.{lastLine, listLines}
 use Rattle.casefile.specs.Stream.{writtenAtEnd}
-use Rattle.casefile.proofs.Shapes.{length-line}
+use Rattle.case_line.proofs.Shapes.{length-line}
 
 begun : (p : List ℕ) → 0 < length p → writtenAtEnd p ≡ lineOf p
 unfolding writtenAtEnd lastLine listLines

@@ -9,8 +9,8 @@ use lib.Dec.{eqb}
 use lib.ListN.{length, take, drop, length-append}
 use lib.Seq.{take-at}
 use Rattle.common.specs.Choice.{pick}
-use Rattle.casefile.specs.declared.stream.OpenLine.{OpenLine}
-use Rattle.casefile.specs.declared.stream.ChunkSettled.{ChunkSettled}
+use Rattle.casefile.specs.declared.OpenLine.{OpenLine}
+use Rattle.casefile.specs.declared.ChunkSettled.{ChunkSettled}
 use Rattle.casefile.specs.File.{listingOf}
 use Rattle.casefile.specs.Stream.{openAfter, writtenBy, writtenAtEnd, takenWith, bytesOf, ChunkTold, Calls, at-end, on-chunk}
 use Rattle.casefile.proofs.Chunks.{open-append, written-append, listing-from, written-kept, end-kept}

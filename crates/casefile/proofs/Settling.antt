@@ -8,11 +8,11 @@ use native.Mathlib.Numerals.{add-one}
 use native.Mathlib.Omega.{arith}
 use lib.ListN.{length, getD, take, drop, length-append, length-drop, take-append-drop, drop-of-length-le}
 use lib.Seq.{paste, length-paste, take-all, take-at, take-add, drop-cons, drop-drop, drop-append-add, length-take-le}
-use Rattle.casefile.specs.declared.stream.OpenLine.{OpenLine}
-use Rattle.casefile.specs.Line.{lineOf}
+use Rattle.casefile.specs.declared.OpenLine.{OpenLine}
+use Rattle.case_line.specs.Line.{lineOf}
 use Rattle.casefile.specs.Stream.{openAfter, writtenBy, takenWith, bytesOf, ChunkTold}
 use Rattle.casefile.specs.Told.{NoEnd, EndFound, Kept}
-use Rattle.casefile.proofs.Shapes.{length-line}
+use Rattle.case_line.proofs.Shapes.{length-line}
 use Rattle.casefile.proofs.Chunks.{open-append, written-append, line-kept, kept-more}
 use Rattle.casefile.proofs.Ends.{next-byte, no-end-open, no-end-written, no-end-taken, end-open, end-written}
 

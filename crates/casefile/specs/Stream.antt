@@ -7,10 +7,10 @@ use Prim.Native.Nat.{ℕ, zero, suc, _/_, _≤_}
 use lib.Dec.{eqb}
 use lib.ListN.{length, take, drop}
 use Rattle.common.specs.Choice.{pick}
-use Rattle.casefile.specs.declared.stream.OpenLine.{OpenLine}
-use Rattle.casefile.specs.declared.stream.ChunkSettled.{ChunkSettled}
-use Rattle.casefile.specs.declared.stream.EndSettled.{EndSettled}
-use Rattle.casefile.specs.Line.{lineOf}
+use Rattle.casefile.specs.declared.OpenLine.{OpenLine}
+use Rattle.casefile.specs.declared.ChunkSettled.{ChunkSettled}
+use Rattle.casefile.specs.declared.EndSettled.{EndSettled}
+use Rattle.case_line.specs.Line.{lineOf}
 use Rattle.casefile.specs.File.{lastLine, listLines}
 
 -- the line that is open after a chunk, where p was open before it

@@ -1,16 +1,9 @@
--- What the steps of settling a line and a chunk promise each other.
+-- What the steps of settling a chunk promise each other.
 -- Assumes nothing.
-use mathlib.Core.Bool.{Bool, true}
 use mathlib.Core.List.{List, [], _∷_, _++_}
 use mathlib.Core.Path.{_≡_}
 use Prim.Native.Nat.{ℕ, _-_, _≤_, _<_}
 use lib.ListN.{length, getD, take, drop}
-use Rattle.casefile.specs.Shape.{allDigits, marksIn}
-
--- whether all are digits, and their numbers where they are
-pub record MarksTold (digits marks : List ℕ) (r : Bool) : Type 0 where
-  pub told : r ≡ allDigits digits
-  pub are : r ≡ true → take (length digits) marks ≡ marksIn digits
 
 -- no byte ends a line
 pub data NoEnd : List ℕ → Type 0 where

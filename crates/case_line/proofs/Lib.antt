@@ -1,0 +1,4 @@
+pub mod Marks
+pub mod Row
+pub mod Shapes
+pub mod Wide

@@ -1,0 +1,74 @@
+-- Which line of the listing each shape of a line has.
+-- Assumes nothing.
+use mathlib.Core.Bool.{Bool, true, false}
+use mathlib.Core.List.{List}
+use mathlib.Core.Path.{_≡_, sym, ap, subst, _∙_}
+use Prim.Native.Nat.{ℕ, _-_, _<_, _≤_}
+use native.Mathlib.Omega.{arith}
+use borrow.Author.Tests.{lt-ltb, le-ltb}
+use lib.Dec.{ltb}
+use lib.ListN.{length, take, drop, length-drop}
+use lib.Seq.{take-all}
+use Rattle.common.specs.Choice.{pick}
+use Rattle.settlement.specs.Settle.{settleOf}
+use Rattle.case_line.specs.declared.Case.{Case}
+use Rattle.case_line.specs.declared.Fields.{Fields}
+use Rattle.case_line.specs.declared.Fields.the-variants.{Whole, WrongShape}
+use Rattle.case_line.specs.Shape.{fieldsOf, allDigits, marksIn}
+use Rattle.case_line.specs.Line.{listedAs, wrongShape, settledLine, lineOf}
+use Rattle.case_line.specs.Told.{MarksTold}
+use Rattle.case_line.proofs.Row.{length-listed}
+
+-- the marks are the whole rest of the line
+pub marks-told : (line marks : List ℕ) (r : Bool) → MarksTold (take (length line - 29) (drop 29 line)) marks r → MarksTold (drop 29 line) marks r
+marks-told line marks r told =
+    subst (λ (digits : List ℕ). MarksTold digits marks r) (take-all (length line - 29) (drop 29 line) (omega (arith, length-drop 29 line))) told
+
+module _ (line : List ℕ) where
+  pub short : length line < 29 → lineOf line ≡ wrongShape
+  unfolding lineOf
+  short h = rw (lt-ltb (length line) 29 h)
+
+  pub long : 29 ≤ length line → 285 < length line → lineOf line ≡ wrongShape
+  unfolding lineOf
+  long low h = rw (le-ltb (length line) 29 low, lt-ltb 285 (length line) h)
+
+  module _ (low : 29 ≤ length line) (high : length line ≤ 285) where
+    in-length : lineOf line ≡ settledLine (fieldsOf line) (drop 29 line)
+    unfolding lineOf
+    in-length = rw (le-ltb (length line) 29 low, le-ltb 285 (length line) high)
+
+    pub no-fields : fieldsOf line ≡ WrongShape → lineOf line ≡ wrongShape
+    unfolding settledLine
+    no-fields e = in-length ∙ rw e
+
+    module _ {c : Case} (e : fieldsOf line ≡ Whole c) {marks : List ℕ} (r : Bool) where
+      pub no-marks : r ≡ false → MarksTold (drop 29 line) marks r → lineOf line ≡ wrongShape
+      unfolding settledLine
+      no-marks f told = in-length ∙ rw (e, sym (told .told) ∙ f)
+
+      pub settled : r ≡ true → MarksTold (drop 29 line) marks r
+          → lineOf line ≡ listedAs (c .election) (settleOf (c .terms) (take (length line - 29) marks))
+      unfolding settledLine
+      settled t told =
+          in-length ∙ rw (e, sym (told .told) ∙ t)
+          (ap (λ (ms : List ℕ). listedAs (c .election) (settleOf (c .terms) ms))
+          (sym (told .are t) ∙ ap (λ (n : ℕ). take n marks) (length-drop 29 line)))
+
+length-wrong : length wrongShape ≡ 46
+unfolding wrongShape
+length-wrong = length-listed _ _
+
+length-choice : (t : Bool) (a b : List ℕ) → length a ≡ 46 → length b ≡ 46 → length (pick t a b) ≡ 46
+length-choice true a b p q = p
+length-choice false a b p q = q
+
+length-settled : (f : Fields) (digits : List ℕ) → length (settledLine f digits) ≡ 46
+unfolding settledLine
+length-settled WrongShape digits = length-wrong
+length-settled (Whole c) digits = length-choice (allDigits digits) _ _ (length-listed _ _) length-wrong
+
+-- a line of the listing has 46 bytes
+pub length-line : (line : List ℕ) → length (lineOf line) ≡ 46
+unfolding lineOf
+length-line line = length-choice (ltb (length line) 29) _ _ length-wrong (length-choice (ltb 285 (length line)) _ _ length-wrong (length-settled (fieldsOf line) (drop 29 line)))
