@@ -19,10 +19,16 @@ use Rattle.case_line.specs.Line.{listedAs, wrongShape, settledLine, line
 use Rattle.case_line.specs.Told.{MarksTold}
 use Rattle.case_line.proofs.Row.{length-listed}
 
--- the marks are the whole rest of the line
-pub marks-told : (line marks : List ℕ) (r : Bool) → MarksTold (take (length line - 29) (drop 29 line)) marks r → MarksTold (drop 29 line) marks r
-marks-told line marks r told =
-    subst (λ (digits : List ℕ). MarksTold digits marks r) (take-all (length line - 29) (drop 29 line) (omega (arith, length-drop 29 line))) told
+module _ (c : Case) {digits marks : List ℕ} {r : Bool} (told : MarksTold digits marks r) where
+  pub no-marks : r ≡ false → settledLine (Whole c) digits ≡ wrongShape
+  unfolding settledLine
+  no-marks f = rw (sym (told .told) ∙ f)
+
+  pub settled : r ≡ true → settledLine (Whole c) digits ≡ listedAs (c .election) (settleOf (c .terms) (take (length digits) marks))
+  unfolding settledLine
+  settled t =
+      rw (sym (told .told) ∙ t)
+      (ap (λ (ms : List ℕ). listedAs (c .election) (settleOf (c .terms) ms)) (sym (told .are t)))
 
 module _ (line : List ℕ) where
   pub short : length line < 29 → lineOf line ≡ wrongShape
@@ -42,18 +48,11 @@ module _ (line : List ℕ) where
     unfolding settledLine
     no-fields e = in-length ∙ rw e
 
-    module _ {c : Case} (e : fieldsOf line ≡ Whole c) {marks : List ℕ} (r : Bool) where
-      pub no-marks : r ≡ false → MarksTold (drop 29 line) marks r → lineOf line ≡ wrongShape
-      unfolding settledLine
-      no-marks f told = in-length ∙ rw (e, sym (told .told) ∙ f)
-
-      pub settled : r ≡ true → MarksTold (drop 29 line) marks r
-          → lineOf line ≡ listedAs (c .election) (settleOf (c .terms) (take (length line - 29) marks))
-      unfolding settledLine
-      settled t told =
-          in-length ∙ rw (e, sym (told .told) ∙ t)
-          (ap (λ (ms : List ℕ). listedAs (c .election) (settleOf (c .terms) ms))
-          (sym (told .are t) ∙ ap (λ (n : ℕ). take n marks) (length-drop 29 line)))
+    -- the digits are the whole rest of the line
+    pub whole : {c : Case} → fieldsOf line ≡ Whole c → lineOf line ≡ settledLine (Whole c) (take (length line - 29) (drop 29 line))
+    whole e =
+        in-length ∙ ap (λ (f : Fields). settledLine f (drop 29 line)) e
+        ∙ ap (settledLine _) (sym (take-all (length line - 29) (drop 29 line) (omega (arith, length-drop 29 line))))
 
 length-wrong : length wrongShape ≡ 46
 unfolding wrongShape

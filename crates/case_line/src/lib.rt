@@ -1,11 +1,13 @@
 // One line of the case file to one line of the listing.
 ghost use mathlib.Core.Path.{_≡_};
-ghost use Prim.Native.Nat.{_≤_};
-ghost use lib.ListN.{length};
+ghost use Prim.Native.Nat.{_-_, _≤_};
+ghost use lib.ListN.{length, take, drop};
+ghost use Rattle.text.specs.Field.{fieldOf};
 ghost use Rattle.numbers.specs.Numbers.{numbersIn};
+ghost use Rattle.case_line.specs.declared.Fields.the-variants.{Whole};
 ghost use Rattle.case_line.specs.Shape.{fieldsOf};
-ghost use Rattle.case_line.specs.Line.{listedAs, wrongShape, lineOf};
-ghost use Rattle.case_line.specs.Told.{MarksTold};
+ghost use Rattle.case_line.specs.Line.{listedAs, wrongShape, settledLine, lineOf};
+ghost use Rattle.case_line.specs.Told.{saidBy, MarksTold};
 use election::Terms;
 use numbers::Numbers;
 use text::Field;
@@ -21,50 +23,71 @@ pub enum Fields {
     WrongShape,
 }
 
+// Whether a field says a number, and which, 0 where none.
+pub struct Said {
+    pub right: bool,
+    pub number: u32,
+}
+
 // The bytes before the marks.
 const FIELDS: usize = 29;
 
 // The most bytes that a line has.
 const LONGEST: usize = 285;
 
+// What the columns say that follow the first from bytes, up to the first to.
+fn said_in(line: &[u8], from: usize, to: usize) -> Said
+    requires { ⌜ (from ≤ to) × (to ≤ length (now line)) ⌝ }
+    ensures { λ r. ⌜ r ≡ saidBy (fieldOf (take (to - from) (drop from (now (line .entry))))) ⌝ }
+{
+    match text::number_in(&line[from..to]) {
+        Field::Number(number) => Said {
+            right: true,
+            number,
+        },
+        Field::NoNumber => Said {
+            right: false,
+            number: 0,
+        },
+    }
+}
+
 fn read_fields(line: &[u8]) -> Fields
     requires { ⌜ 29 ≤ length (now line) ⌝ }
     ensures { λ r. ⌜ r ≡ fieldsOf (now (line .entry)) ⌝ }
 {
-    let Field::Number(election) = text::number_in(&line[0..6]) else {
-        return Fields::WrongShape;
-    };
-    let Field::Number(age) = text::number_in(&line[6..9]) else {
-        return Fields::WrongShape;
-    };
-    let Field::Number(years) = text::number_in(&line[9..12]) else {
-        return Fields::WrongShape;
-    };
-    let Field::Number(months) = text::number_in(&line[12..15]) else {
-        return Fields::WrongShape;
-    };
-    let Field::Number(option) = text::number_in(&line[15..17]) else {
-        return Fields::WrongShape;
-    };
-    let Field::Number(payer) = text::number_in(&line[17..19]) else {
-        return Fields::WrongShape;
-    };
-    let Field::Number(term) = text::number_in(&line[19..22]) else {
-        return Fields::WrongShape;
-    };
-    let Field::Number(amount) = text::number_in(&line[22..29]) else {
-        return Fields::WrongShape;
-    };
-    let terms = Terms {
-        age,
-        years,
-        months,
-        option,
-        payer,
-        term,
-        amount,
-    };
-    Fields::Whole(Case { election, terms })
+    let election = said_in(line, 0, 6);
+    let age = said_in(line, 6, 9);
+    let years = said_in(line, 9, 12);
+    let months = said_in(line, 12, 15);
+    let option = said_in(line, 15, 17);
+    let payer = said_in(line, 17, 19);
+    let term = said_in(line, 19, 22);
+    let amount = said_in(line, 22, 29);
+    if election.right
+        & age.right
+        & years.right
+        & months.right
+        & option.right
+        & payer.right
+        & term.right
+        & amount.right
+    {
+        let terms = Terms {
+            age: age.number,
+            years: years.number,
+            months: months.number,
+            option: option.number,
+            payer: payer.number,
+            term: term.number,
+            amount: amount.number,
+        };
+        return Fields::Whole(Case {
+            election: election.number,
+            terms,
+        });
+    }
+    Fields::WrongShape
 }
 
 // The numbers of the digits, put into marks, and whether all are digits.
@@ -118,6 +141,22 @@ fn wrong_shape() -> [u8; 46]
     )
 }
 
+// The listing's line for fields and the mark digits behind them.
+fn settle_case(case: Case, digits: &[u8]) -> [u8; 46]
+    requires { ⌜ length (now digits) ≤ 256 ⌝ }
+    ensures { λ r. ⌜ r ≡ settledLine (Whole case) (now (digits .entry)) ⌝ }
+{
+    let mut marks = [0u8; 256];
+    let right = read_marks(digits, &mut marks);
+    if right {
+        let count = digits.len();
+        let election = case.election;
+        let answer = settlement::settle(case.terms, &marks[..count]);
+        return listed(election, numbers::numbers_of(answer));
+    }
+    wrong_shape()
+}
+
 // The listing's line for a line of the file, whatever its bytes are.
 pub fn settle_line(line: &[u8]) -> [u8; 46]
     ensures { λ r. ⌜ r ≡ lineOf (now (line .entry)) ⌝ }
@@ -128,16 +167,8 @@ pub fn settle_line(line: &[u8]) -> [u8; 46]
     if LONGEST < line.len() {
         return wrong_shape();
     }
-    let Fields::Whole(case) = read_fields(line) else {
-        return wrong_shape();
-    };
-    let mut marks = [0u8; 256];
-    let right = read_marks(&line[FIELDS..], &mut marks);
-    if right {
-        let count = line.len() - FIELDS;
-        let election = case.election;
-        let answer = settlement::settle(case.terms, &marks[..count]);
-        return listed(election, numbers::numbers_of(answer));
+    match read_fields(line) {
+        Fields::Whole(case) => settle_case(case, &line[FIELDS..]),
+        Fields::WrongShape => wrong_shape(),
     }
-    wrong_shape()
 }

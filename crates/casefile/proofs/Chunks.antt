@@ -105,8 +105,8 @@ same-open (b ∷ bs) p q e =
 same-end : (p q : List ℕ) → Same p q → writtenAtEnd p ≡ writtenAtEnd q
 unfolding writtenAtEnd lastLine listLines
 same-end [] [] e = refl
-same-end [] (y ∷ q) e = let z : _≡_ {A = ℕ} 0 1 = cc in absurd (omega arith)
-same-end (x ∷ p) [] e = let z : _≡_ {A = ℕ} 0 1 = cc in absurd (omega arith)
+same-end [] (y ∷ q) e = absurd (omega (arith, ap length e))
+same-end (x ∷ p) [] e = absurd (omega (arith, ap length e))
 same-end (x ∷ p) (y ∷ q) e = ap (λ (r : List ℕ). r ++ []) (same-line (x ∷ p) (y ∷ q) e)
 
 module _ (p : List ℕ) (bs : List ℕ) where

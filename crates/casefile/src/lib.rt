@@ -5,14 +5,14 @@ ghost use Prim.Native.Nat.{_+_, _≤_, min};
 ghost use lib.ListN.{length, take};
 ghost use lib.Seq.{paste};
 ghost use Rattle.case_line.specs.Line.{lineOf};
-ghost use Rattle.casefile.specs.Stream.{bytesOf, ChunkTold, EndTold};
-ghost use Rattle.casefile.specs.Told.{EndFound, Kept};
+ghost use Rattle.casefile.specs.Stream.{bytesOf, ChunkTold, endOf};
+ghost use Rattle.casefile.specs.Told.{EndFound, Kept, PartTold};
 use case_line::settle_line;
 
 // The bytes since the last line end, the first len of the array. 286 stand for any more.
 pub struct OpenLine {
-    pub bytes: [u8; 286],
-    pub len: usize,
+    bytes: [u8; 286],
+    len: usize,
 }
 
 // How many bytes of the chunk were worked through, how many were written, and the line that is open.
@@ -26,6 +26,13 @@ pub struct ChunkSettled {
 pub struct EndSettled {
     pub bytes: [u8; 46],
     pub wrote: usize,
+}
+
+// How many bytes are open, taken of the chunk and written.
+struct Progress {
+    len: usize,
+    taken: usize,
+    wrote: usize,
 }
 
 // The most bytes of an open line that are kept.
@@ -87,6 +94,33 @@ fn end_line(bytes: &mut [u8], len: usize, part: &[u8]) -> [u8; 46]
     settle_line(&bytes[..whole])
 }
 
+// Settles the next part of the chunk: the line that ends in it, or what is open of one that goes on.
+fn settle_part(bytes: &mut [u8], chunk: &[u8], out: &mut [u8], at: Progress) -> Progress
+    requires { ⌜ (length (now bytes) ≡ 286) × (at .len ≤ 286) ⌝ }
+    requires { ⌜ (at .taken ≤ length (now chunk)) × (at .wrote + 46 ≤ length (now out)) ⌝ }
+    ensures { λ r. ⌜ PartTold (now (bytes .entry)) (now (chunk .entry)) (now (out .entry)) (now (bytes .exit)) (now (out .exit)) at r ⌝ }
+{
+    let taken = at.taken;
+    let end = line_end(chunk, taken);
+    if end < chunk.len() {
+        let next = end + 1;
+        let row = end_line(bytes, at.len, &chunk[taken..end]);
+        copy(out, at.wrote, &row, LISTED);
+        let wrote = at.wrote + LISTED;
+        return Progress {
+            len: 0,
+            taken: next,
+            wrote,
+        };
+    }
+    let len = keep(bytes, at.len, &chunk[taken..end]);
+    Progress {
+        len,
+        taken: end,
+        wrote: at.wrote,
+    }
+}
+
 pub fn no_line() -> OpenLine
     ensures { λ r. ⌜ bytesOf r ≡ [] ⌝ }
 {
@@ -101,50 +135,35 @@ pub fn settle_chunk(before: OpenLine, chunk: &[u8], out: &mut [u8]) -> ChunkSett
     ensures { λ r. ⌜ ChunkTold before (now (chunk .entry)) (now (out .entry)) (now (out .exit)) r ⌝ }
 {
     let mut bytes = before.bytes;
-    let mut len = least(before.len, KEPT);
-    let mut taken = 0;
-    let mut wrote = 0;
-    while taken < chunk.len() {
-        if out.len() - wrote < LISTED {
-            return ChunkSettled {
-                after: OpenLine { bytes, len },
-                taken,
-                wrote,
-            };
-        }
-        let end = line_end(chunk, taken);
-        if end < chunk.len() {
-            let row = end_line(&mut bytes, len, &chunk[taken..end]);
-            copy(out, wrote, &row, LISTED);
-            wrote += LISTED;
-            len = 0;
-            taken = end + 1;
-        } else {
-            len = keep(&mut bytes, len, &chunk[taken..end]);
-            taken = end;
-        }
+    let mut at = Progress {
+        len: least(before.len, KEPT),
+        taken: 0,
+        wrote: 0,
+    };
+    while (at.taken < chunk.len()) & (LISTED <= out.len() - at.wrote) {
+        at = settle_part(&mut bytes, chunk, out, at);
     }
     ChunkSettled {
-        after: OpenLine { bytes, len },
-        taken,
-        wrote,
+        after: OpenLine { bytes, len: at.len },
+        taken: at.taken,
+        wrote: at.wrote,
     }
 }
 
 // The line that the end of the file ends, if one is open.
 pub fn settle_end(before: OpenLine) -> EndSettled
-    ensures { λ r. ⌜ EndTold before r ⌝ }
+    ensures { λ r. ⌜ r ≡ endOf (bytesOf before) ⌝ }
 {
     let bytes = before.bytes;
-    let len = least(before.len, KEPT);
-    if len == 0 {
+    let open = least(before.len, KEPT);
+    if open == 0 {
         return EndSettled {
             bytes: [0u8; 46],
             wrote: 0,
         };
     }
     EndSettled {
-        bytes: settle_line(&bytes[..len]),
+        bytes: settle_line(&bytes[..open]),
         wrote: LISTED,
     }
 }

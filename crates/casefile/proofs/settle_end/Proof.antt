@@ -22,7 +22,7 @@ least-requires : tie.Need-least-requires
 least-requires c κs = search needs
 
 returns : tie.Need-returns
-returns c = record { within = omega arith; written = no-last-line _ (entry-open (c .before)) (c .if1 .taken) }
+returns c = no-last-line _ (entry-open (c .before)) (c .if1 .taken)
 
 array-share-prefix-bytes : tie.Need-array-share-prefix-bytes
 array-share-prefix-bytes c = omega (arith, entry-long (c .before), c .before .least .ensures)
@@ -36,7 +36,7 @@ settle-line-requires c κs = search needs
 returns-2 : tie.Need-returns-2
 returns-2 c =
     let l = c .before .before .before in
-    record { within = omega arith; written = last-line _ (entry-open l) (omega (arith, entry-long l, l .least .ensures)) (c .before .before .if1 .left) (c .settle-line .ensures) }
+    last-line _ (entry-open l) (omega (arith, entry-long l, l .least .ensures)) (c .before .before .if1 .left) (c .settle-line .ensures)
 
 pub settle-end-spec : {M : Type 1} → statement M
 settle-end-spec =
