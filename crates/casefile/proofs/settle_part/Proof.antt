@@ -7,22 +7,22 @@ use Rattle.casefile.proofs.settle_part.Statement.{statement}
 use Rattle.casefile.proofs.settle_part.Tie as tie
 
 line-end-requires : tie.Need-line-end-requires
-line-end-requires c κs = search needs
+line-end-requires c κs = c .before .before .before .pre .1 .0
 
 add-next : tie.Need-add-next
 add-next c = search needs
 
 sub-end-line : tie.Need-sub-end-line
-sub-end-line c = search needs
+sub-end-line c = c .before .before .line-end .ensures .after
 
 part-end-line-start : tie.Need-part-end-line-start
-part-end-line-start c = search needs
+part-end-line-start c = c .before .before .line-end .ensures .after
 
 part-end-line-end : tie.Need-part-end-line-end
-part-end-line-end c = search needs
+part-end-line-end c = c .before .before .line-end .ensures .within
 
 end-line-requires : tie.Need-end-line-requires
-end-line-requires c κs = search needs
+end-line-requires c κs = c .before .before .before .before .before .before .before .pre .0
 
 slice-aggregate-copy : tie.Need-slice-aggregate-copy
 slice-aggregate-copy c = search needs
@@ -47,16 +47,16 @@ returns c =
     (row .end-line .ensures) (c .before .before .before .copy .ensures)
 
 sub-keep : tie.Need-sub-keep
-sub-keep c = search needs
+sub-keep c = c .before .before .line-end .ensures .after
 
 part-keep-start : tie.Need-part-keep-start
-part-keep-start c = search needs
+part-keep-start c = c .before .before .line-end .ensures .after
 
 part-keep-end : tie.Need-part-keep-end
-part-keep-end c = search needs
+part-keep-end c = c .before .before .line-end .ensures .within
 
 keep-requires : tie.Need-keep-requires
-keep-requires c κs = search needs
+keep-requires c κs = c .before .before .before .before .before .before .before .pre .0
 
 same-length-3 : tie.Need-same-length-3
 same-length-3 c = search needs
