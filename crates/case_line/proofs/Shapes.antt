@@ -2,7 +2,7 @@
 -- Assumes nothing.
 use mathlib.Core.Bool.{Bool, true, false}
 use mathlib.Core.List.{List}
-use mathlib.Core.Path.{_≡_, sym, ap, subst, _∙_}
+use mathlib.Core.Path.{_≡_, sym, ap, _∙_}
 use Prim.Native.Nat.{ℕ, _-_, _<_, _≤_}
 use native.Mathlib.Omega.{arith}
 use borrow.Author.Tests.{lt-ltb, le-ltb}
@@ -14,7 +14,7 @@ use Rattle.settlement.specs.Settle.{settleOf}
 use Rattle.case_line.specs.declared.Case.{Case}
 use Rattle.case_line.specs.declared.Fields.{Fields}
 use Rattle.case_line.specs.declared.Fields.the-variants.{Whole, WrongShape}
-use Rattle.case_line.specs.Shape.{fieldsOf, allDigits, marksIn}
+use Rattle.case_line.specs.Shape.{fieldsOf, allDigits}
 use Rattle.case_line.specs.Line.{listedAs, wrongShape, settledLine, lineOf}
 use Rattle.case_line.specs.Told.{MarksTold}
 use Rattle.case_line.proofs.Row.{length-listed}

@@ -5,7 +5,7 @@ use mathlib.Core.Path.{_≡_}
 use Prim.Native.Nat.{ℕ, _<_, _≤_, _^_}
 use native.Mathlib.Nat.{pow-le-pow-right}
 use native.Mathlib.Omega.{arith}
-use lib.ListN.{length, take, drop, length-take}
+use lib.ListN.{length, take, length-take}
 use Rattle.text.specs.declared.Field.the-variants.{Number}
 use Rattle.text.specs.Field.{fieldOf}
 use Rattle.text.specs.Column.{columnOf}

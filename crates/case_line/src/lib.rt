@@ -24,9 +24,9 @@ pub enum Fields {
 }
 
 // Whether a field says a number, and which, 0 where none.
-pub struct Said {
-    pub right: bool,
-    pub number: u32,
+struct Said {
+    right: bool,
+    number: u32,
 }
 
 // The bytes before the marks.
@@ -35,7 +35,7 @@ const FIELDS: usize = 29;
 // The most bytes that a line has.
 const LONGEST: usize = 285;
 
-// What the columns say that follow the first from bytes, up to the first to.
+// What the bytes from one index up to another say.
 fn said_in(line: &[u8], from: usize, to: usize) -> Said
     requires { ⌜ (from ≤ to) × (to ≤ length (now line)) ⌝ }
     ensures { λ r. ⌜ r ≡ saidBy (fieldOf (take (to - from) (drop from (now (line .entry))))) ⌝ }

@@ -1,13 +1,13 @@
 -- Chunks add up: settling any chunks of a file one after the other, then the end, writes the listing of the whole file.
 -- Assumes nothing.
 use mathlib.Core.Bool.{Bool, true, false}
-use mathlib.Core.List.{List, [], _∷_, _++_, append-assoc, append-nil}
+use mathlib.Core.List.{List, [], _∷_, _++_, append-assoc}
 use mathlib.Core.Path.{_≡_, refl, sym, ap, _∙_}
 use Prim.Native.Nat.{ℕ, zero, suc, _<_, _≤_}
 use native.Mathlib.Omega.{arith}
 use borrow.Author.Tests.{ltb-true, ltb-false}
 use lib.Dec.{ltb, eqb}
-use lib.ListN.{length, take, length-take}
+use lib.ListN.{length, take}
 use lib.Seq.{take-all, take-take, length-take-le}
 use Rattle.common.specs.Choice.{pick}
 use Rattle.case_line.specs.Line.{lineOf}

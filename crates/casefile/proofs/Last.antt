@@ -8,7 +8,6 @@ use lib.ListN.{length, take, replicate}
 use lib.Seq.{take-all, length-take-le}
 use Rattle.case_line.specs.Line.{lineOf}
 use Rattle.case_line.proofs.Shapes.{length-line}
-use Rattle.casefile.specs.declared.EndSettled.{EndSettled}
 use Rattle.casefile.specs.File.{lastLine, listLines}
 use Rattle.casefile.specs.Stream.{writtenAtEnd, endOf}
 

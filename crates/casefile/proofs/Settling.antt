@@ -1,7 +1,7 @@
 -- A chunk settled line by line.
 -- Assumes nothing.
 use mathlib.Core.Bool.{Bool, true, false, _&&_, false≢true}
-use mathlib.Core.List.{List, [], _∷_, _++_, append-assoc, append-nil}
+use mathlib.Core.List.{List, [], _∷_, _++_, append-nil}
 use mathlib.Core.Path.{_≡_, refl, sym, ap, subst, _∙_}
 use Prim.Native.Nat.{ℕ, zero, suc, _+_, _-_, _/_, _<_, _≤_}
 use native.Mathlib.Nat.{zero-add, sub-zero}
@@ -9,7 +9,7 @@ use native.Mathlib.Numerals.{add-one}
 use native.Mathlib.Omega.{arith}
 use borrow.Author.Tests.{ltb-true, ltb-false, leb-true, leb-false}
 use lib.Dec.{ltb, leb}
-use lib.ListN.{length, getD, take, drop, length-append, length-drop, take-append-drop, drop-of-length-le}
+use lib.ListN.{length, take, drop, length-append, length-drop, take-append-drop, drop-of-length-le}
 use lib.Seq.{paste, length-paste, take-all, take-at, take-add, drop-cons, drop-drop, drop-append-add, length-take-le}
 use Rattle.casefile.specs.declared.OpenLine.{OpenLine}
 use Rattle.casefile.specs.declared.Progress.{Progress}

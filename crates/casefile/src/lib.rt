@@ -6,7 +6,8 @@ ghost use lib.ListN.{length, take};
 ghost use lib.Seq.{paste};
 ghost use Rattle.case_line.specs.Line.{lineOf};
 ghost use Rattle.casefile.specs.Stream.{bytesOf, ChunkTold, endOf};
-ghost use Rattle.casefile.specs.Told.{EndFound, Kept, PartTold};
+ghost use Rattle.casefile.specs.Told.{Kept, PartTold};
+use bytes::scan::find;
 use case_line::settle_line;
 
 // The bytes since the last line end, the first len of the array. 286 stand for any more.
@@ -58,20 +59,6 @@ fn copy(to: &mut [u8], at: usize, part: &[u8], n: usize)
     }
 }
 
-fn line_end(chunk: &[u8], start: usize) -> usize
-    requires { ⌜ start ≤ length (now chunk) ⌝ }
-    ensures { λ r. ⌜ EndFound (now (chunk .entry)) start r ⌝ }
-{
-    let mut i = start;
-    while i < chunk.len() {
-        if chunk[i] == b'\n' {
-            return i;
-        }
-        i += 1;
-    }
-    i
-}
-
 // The part after the len bytes that are there, as far as 286 go.
 fn keep(bytes: &mut [u8], len: usize, part: &[u8]) -> usize
     requires { ⌜ (length (now bytes) ≡ 286) × (len ≤ 286) ⌝ }
@@ -101,7 +88,7 @@ fn settle_part(bytes: &mut [u8], chunk: &[u8], out: &mut [u8], at: Progress) -> 
     ensures { λ r. ⌜ PartTold (now (bytes .entry)) (now (chunk .entry)) (now (out .entry)) (now (bytes .exit)) (now (out .exit)) at r ⌝ }
 {
     let taken = at.taken;
-    let end = line_end(chunk, taken);
+    let end = find(chunk, taken, chunk.len(), b'\n');
     if end < chunk.len() {
         let next = end + 1;
         let row = end_line(bytes, at.len, &chunk[taken..end]);

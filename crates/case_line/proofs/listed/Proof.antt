@@ -1,7 +1,7 @@
 -- `case_line::listed` meets its contract: seven columns one after the other, then the line end. z1 to z7 are the places after each.
 -- Assumes nothing.
 use lib.Dec.{lit≤}
-use mathlib.Core.Path.{_≡_, refl}
+use mathlib.Core.Path.{refl}
 use Rattle.case_line.specs.Line.{listedAs}
 use Rattle.case_line.proofs.Row.{nothing-filled, column-filled, line-ended}
 use borrow.Author.Needs.{needs}

@@ -1,14 +1,10 @@
 -- `case_line::read_marks` meets its contract. The invariant: what is passed is digits, and their numbers are written.
 -- Assumes nothing.
-use mathlib.Core.Bool.{true, false}
-use mathlib.Core.Path.{_≡_, refl, sym, subst, _∙_}
-use Prim.Native.Nat.{_-_, _≤_}
+use mathlib.Core.Path.{refl, _∙_}
+use Prim.Native.Nat.{_-_}
 use native.Mathlib.Omega.{arith}
-use lib.ListN.{length, length-set}
+use lib.ListN.{length}
 use Rattle.case_line.proofs.Marks.{MarksRead, no-marks, mark-more, mark-low, mark-high, marks-end}
-use mathlib.Core.Bool.{true}
-use mathlib.Core.Path.{_≡_, refl, sym, _∙_}
-use Rattle.case_line.proofs.Marks.{MarksRead, mark-more, mark-low, mark-high, marks-end}
 use borrow.Author.Needs.{needs}
 use Rattle.case_line.proofs.read_marks.Statement.{statement}
 use Rattle.case_line.proofs.read_marks.Tie as tie

@@ -1,6 +1,6 @@
 -- `case_line::said_in` meets its contract.
 -- Assumes nothing.
-use mathlib.Core.Path.{_≡_, sym, ap, _∙_}
+use mathlib.Core.Path.{sym, ap, _∙_}
 use Rattle.case_line.specs.Told.{saidBy}
 use borrow.Author.Needs.{needs}
 use Rattle.case_line.proofs.said_in.Statement.{statement}

@@ -1,6 +1,6 @@
 -- `case_line::settle_line` meets its contract, shape by shape.
 -- Assumes nothing.
-use mathlib.Core.Path.{_≡_, sym, _∙_}
+use mathlib.Core.Path.{sym, _∙_}
 use Rattle.case_line.proofs.Shapes.{short, long, no-fields, whole}
 use borrow.Author.Needs.{needs}
 use Rattle.case_line.proofs.settle_line.Statement.{statement}

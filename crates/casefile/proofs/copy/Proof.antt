@@ -1,14 +1,12 @@
 -- `casefile::copy` meets its contract. The invariant: i bytes are pasted.
 -- Assumes nothing.
-use mathlib.Core.Path.{_≡_, sym, ap, _∙_}
-use Prim.Native.Nat.{_+_, _-_, _≤_}
+use mathlib.Core.Path.{_≡_, ap, _∙_}
+use Prim.Native.Nat.{_-_, _≤_}
 use native.Mathlib.Omega.{arith}
 use denote.Ref.{now}
 use lib.ListN.{length}
 use lib.Seq.{paste, paste-zero, length-paste}
 use Rattle.casefile.proofs.Keeping.{paste-more}
-use native.Mathlib.Numerals.{add-one}
-use lib.Seq.{paste, paste-zero, paste-suc, length-paste}
 use borrow.Author.Needs.{needs}
 use Rattle.casefile.proofs.copy.Statement.{statement}
 use Rattle.casefile.proofs.copy.Tie as tie

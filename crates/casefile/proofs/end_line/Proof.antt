@@ -1,10 +1,7 @@
 -- `casefile::end_line` meets its contract: 286 bytes of a line tell as much as all of it.
 -- Assumes nothing.
-use mathlib.Core.List.{_++_}
-use mathlib.Core.Path.{_≡_, sym, ap, _∙_}
+use mathlib.Core.Path.{sym, ap, _∙_}
 use native.Mathlib.Omega.{arith}
-use denote.Ref.{now}
-use lib.ListN.{take}
 use lib.Seq.{length-take-le}
 use Rattle.case_line.specs.Line.{lineOf}
 use Rattle.casefile.proofs.Chunks.{line-kept}

@@ -1,6 +1,5 @@
 -- `casefile::keep` meets its contract.
 -- Assumes nothing.
-use native.Mathlib.Omega.{arith}
 use denote.Ref.{now}
 use Rattle.casefile.proofs.Keeping.{kept-part}
 use borrow.Author.Needs.{needs}

@@ -1,6 +1,6 @@
 -- `casefile::settle_chunk` meets its contract. The invariant: what is taken of the chunk is settled.
 -- Assumes nothing.
-use mathlib.Core.Path.{_≡_, _∙_}
+use mathlib.Core.Path.{_≡_}
 use Prim.Native.Nat.{_-_, _<_, _≤_}
 use native.Mathlib.Omega.{arith}
 use denote.Ref.{now}

@@ -1,25 +1,30 @@
 -- `casefile::settle_part` meets its contract.
 -- Assumes nothing.
 use mathlib.Core.Path.{refl}
-use Rattle.casefile.specs.Told.{line-ends, goes-on}
+use denote.Ref.{now}
+use Rattle.casefile.specs.Told.{EndFound, line-ends, goes-on}
+use Rattle.casefile.proofs.Ends.{end-found}
 use borrow.Author.Needs.{needs}
 use Rattle.casefile.proofs.settle_part.Statement.{statement}
 use Rattle.casefile.proofs.settle_part.Tie as tie
 
-line-end-requires : tie.Need-line-end-requires
-line-end-requires c κs = c .before .before .before .pre .1 .0
+found : (c : tie.After-find) → EndFound (now (c .before .before .before .before .args .chunk)) (c .before .before .before .before .args .at .taken) (c .find .result)
+found c = end-found _ _ (c .before .before .before .before .pre .1 .0) (c .find .ensures .0)
+
+find-requires : tie.Need-find-requires
+find-requires c κs = search needs
 
 add-next : tie.Need-add-next
 add-next c = search needs
 
 sub-end-line : tie.Need-sub-end-line
-sub-end-line c = c .before .before .line-end .ensures .after
+sub-end-line c = found (c .before .before) .after
 
 part-end-line-start : tie.Need-part-end-line-start
-part-end-line-start c = c .before .before .line-end .ensures .after
+part-end-line-start c = found (c .before .before) .after
 
 part-end-line-end : tie.Need-part-end-line-end
-part-end-line-end c = c .before .before .line-end .ensures .within
+part-end-line-end c = found (c .before .before) .within
 
 end-line-requires : tie.Need-end-line-requires
 end-line-requires c κs = c .before .before .before .before .before .before .before .pre .0
@@ -43,17 +48,17 @@ returns : tie.Need-returns
 returns c =
     let row = c .before .before .before .before .before .before .before .before in
     let end = row .before .before .before .before in
-    line-ends (end .line-end .ensures) (row .before .before .before .if1 .taken)
+    line-ends (found end) (row .before .before .before .if1 .taken)
     (row .end-line .ensures) (c .before .before .before .copy .ensures)
 
 sub-keep : tie.Need-sub-keep
-sub-keep c = c .before .before .line-end .ensures .after
+sub-keep c = found (c .before .before) .after
 
 part-keep-start : tie.Need-part-keep-start
-part-keep-start c = c .before .before .line-end .ensures .after
+part-keep-start c = found (c .before .before) .after
 
 part-keep-end : tie.Need-part-keep-end
-part-keep-end c = c .before .before .line-end .ensures .within
+part-keep-end c = found (c .before .before) .within
 
 keep-requires : tie.Need-keep-requires
 keep-requires c κs = c .before .before .before .before .before .before .before .pre .0
@@ -64,13 +69,13 @@ same-length-3 c = search needs
 returns-2 : tie.Need-returns-2
 returns-2 c =
     let end = c .before .before .before .before .before .before in
-    goes-on (end .line-end .ensures) (c .before .before .before .before .before .if1 .left) (c .before .before .keep .ensures) refl
+    goes-on (found end) (c .before .before .before .before .before .if1 .left) (c .before .before .keep .ensures) refl
 
 pub settle-part-spec : {M : Type 1} → statement M
 settle-part-spec =
     tie.close
     (tie.spec
-    line-end-requires
+    find-requires
     add-next
     sub-end-line
     part-end-line-start
