@@ -1,6 +1,7 @@
 -- `casefile::settle_part` meets its contract.
 -- Assumes nothing.
 use mathlib.Core.Path.{refl}
+use native.Mathlib.Omega.{arith}
 use denote.Ref.{now}
 use Rattle.casefile.specs.Told.{EndFound, line-ends, goes-on}
 use Rattle.casefile.proofs.Ends.{end-found}
@@ -18,16 +19,16 @@ add-next : tie.Need-add-next
 add-next c = search needs
 
 sub-end-line : tie.Need-sub-end-line
-sub-end-line c = found (c .before .before) .after
+sub-end-line c = omega (arith, found (c .before .before) .after)
 
 part-end-line-start : tie.Need-part-end-line-start
-part-end-line-start c = found (c .before .before) .after
+part-end-line-start c = omega (arith, found (c .before .before) .after)
 
 part-end-line-end : tie.Need-part-end-line-end
-part-end-line-end c = found (c .before .before) .within
+part-end-line-end c = omega (arith, found (c .before .before) .within)
 
 end-line-requires : tie.Need-end-line-requires
-end-line-requires c κs = c .before .before .before .before .before .before .before .pre .0
+end-line-requires c κs = search needs
 
 slice-aggregate-copy : tie.Need-slice-aggregate-copy
 slice-aggregate-copy c = search needs
@@ -52,16 +53,16 @@ returns c =
     (row .end-line .ensures) (c .before .before .before .copy .ensures)
 
 sub-keep : tie.Need-sub-keep
-sub-keep c = found (c .before .before) .after
+sub-keep c = omega (arith, found (c .before .before) .after)
 
 part-keep-start : tie.Need-part-keep-start
-part-keep-start c = found (c .before .before) .after
+part-keep-start c = omega (arith, found (c .before .before) .after)
 
 part-keep-end : tie.Need-part-keep-end
-part-keep-end c = found (c .before .before) .within
+part-keep-end c = omega (arith, found (c .before .before) .within)
 
 keep-requires : tie.Need-keep-requires
-keep-requires c κs = c .before .before .before .before .before .before .before .pre .0
+keep-requires c κs = search needs
 
 same-length-3 : tie.Need-same-length-3
 same-length-3 c = search needs
