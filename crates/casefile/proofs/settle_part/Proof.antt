@@ -40,10 +40,10 @@ add-wrote : tie.Need-add-wrote
 add-wrote c = search needs
 
 same-length : tie.Need-same-length
-same-length c = search needs
+same-length c = c .before .before .before .before .before .before .before .before .end-line .kept .0
 
 same-length-2 : tie.Need-same-length-2
-same-length-2 c = search needs
+same-length-2 c = c .before .before .before .copy .kept .0
 
 returns : tie.Need-returns
 returns c =
@@ -65,7 +65,7 @@ keep-requires : tie.Need-keep-requires
 keep-requires c κs = search needs
 
 same-length-3 : tie.Need-same-length-3
-same-length-3 c = search needs
+same-length-3 c = c .before .before .keep .kept .0
 
 returns-2 : tie.Need-returns-2
 returns-2 c =
