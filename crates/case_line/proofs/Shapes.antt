@@ -1,11 +1,11 @@
 -- Which line of the listing each shape of a line has.
 -- Assumes nothing.
-use mathlib.Core.Bool.{Bool, true, false}
+use mathlib.Core.Bool.{Bool, true, false, _||_, false≢true}
 use mathlib.Core.List.{List}
-use mathlib.Core.Path.{_≡_, sym, ap, _∙_}
+use mathlib.Core.Path.{_≡_, refl, sym, ap, _∙_}
 use Prim.Native.Nat.{ℕ, _-_, _<_, _≤_}
 use native.Mathlib.Omega.{arith}
-use borrow.Author.Tests.{lt-ltb, le-ltb}
+use borrow.Author.Tests.{lt-ltb, le-ltb, ltb-false}
 use lib.Dec.{ltb}
 use lib.ListN.{length, take, drop, length-drop}
 use lib.Seq.{take-all}
@@ -30,10 +30,25 @@ module _ (c : Case) {digits marks : List ℕ} {r : Bool} (told : MarksTold digit
       rw (sym (told .told) ∙ t)
       (ap (λ (ms : List ℕ). listedAs (c .election) (settleOf (c .terms) ms)) (sym (told .are t)))
 
+-- one test of both ends of a range
+either : (a b : Bool) (wrong right : List ℕ) → a || b ≡ true → pick a wrong (pick b wrong right) ≡ wrong
+either true b wrong right e = refl
+either false true wrong right e = refl
+either false false wrong right e = absurd (false≢true e)
+
+neither : (a b : Bool) → a || b ≡ false → (a ≡ false) × (b ≡ false)
+neither true b e = absurd (false≢true (sym e))
+neither false b e = (refl, e)
+
 module _ (line : List ℕ) where
-  pub short : length line < 29 → lineOf line ≡ wrongShape
+  pub not-in-length : ltb (length line) 29 || ltb 285 (length line) ≡ true → lineOf line ≡ wrongShape
   unfolding lineOf
-  short h = rw (lt-ltb (length line) 29 h)
+  not-in-length e = either (ltb (length line) 29) (ltb 285 (length line)) _ _ e
+
+  pub lengths : ltb (length line) 29 || ltb 285 (length line) ≡ false → (29 ≤ length line) × (length line ≤ 285)
+  lengths e =
+      let both = neither (ltb (length line) 29) (ltb 285 (length line)) e in
+      (ltb-false _ _ (both .0), ltb-false _ _ (both .1))
 
   pub long : 29 ≤ length line → 285 < length line → lineOf line ≡ wrongShape
   unfolding lineOf

@@ -161,10 +161,7 @@ fn settle_case(case: Case, digits: &[u8]) -> [u8; 46]
 pub fn settle_line(line: &[u8]) -> [u8; 46]
     ensures { λ r. ⌜ r ≡ lineOf (now (line .entry)) ⌝ }
 {
-    if line.len() < FIELDS {
-        return wrong_shape();
-    }
-    if LONGEST < line.len() {
+    if (line.len() < FIELDS) | (LONGEST < line.len()) {
         return wrong_shape();
     }
     match read_fields(line) {
