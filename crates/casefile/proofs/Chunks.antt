@@ -1,19 +1,19 @@
 -- Chunks add up: settling any chunks of a file one after the other, then the end, writes the listing of the whole file.
 -- Assumes nothing.
 use mathlib.Core.Bool.{Bool, true, false}
-use mathlib.Core.List.{List, [], _∷_, _++_, append-assoc, append-nil}
+use mathlib.Core.List.{List, [], _∷_, _++_, append-assoc}
 use mathlib.Core.Path.{_≡_, refl, sym, ap, _∙_}
 use Prim.Native.Nat.{ℕ, zero, suc, _<_, _≤_}
 use native.Mathlib.Omega.{arith}
 use borrow.Author.Tests.{ltb-true, ltb-false}
 use lib.Dec.{ltb, eqb}
-use lib.ListN.{length, take, length-take}
+use lib.ListN.{length, take}
 use lib.Seq.{take-all, take-take, length-take-le}
 use Rattle.common.specs.Choice.{pick}
-use Rattle.casefile.specs.Line.{lineOf}
+use Rattle.case_line.specs.Line.{lineOf}
 use Rattle.casefile.specs.File.{lastLine, linesAfter, listLines, listingOf}
 use Rattle.casefile.specs.Stream.{openAfter, writtenBy, writtenAtEnd, writtenThrough, fileOf}
-use Rattle.casefile.proofs.Shapes.{long}
+use Rattle.case_line.proofs.Shapes.{long}
 
 -- both ways of a test
 by-test : (t : Bool) (P : Bool → Type 0) → P true → P false → P t
@@ -105,8 +105,8 @@ same-open (b ∷ bs) p q e =
 same-end : (p q : List ℕ) → Same p q → writtenAtEnd p ≡ writtenAtEnd q
 unfolding writtenAtEnd lastLine listLines
 same-end [] [] e = refl
-same-end [] (y ∷ q) e = let z : _≡_ {A = ℕ} 0 1 = cc in absurd (omega arith)
-same-end (x ∷ p) [] e = let z : _≡_ {A = ℕ} 0 1 = cc in absurd (omega arith)
+same-end [] (y ∷ q) e = absurd (omega (arith, ap length e))
+same-end (x ∷ p) [] e = absurd (omega (arith, ap length e))
 same-end (x ∷ p) (y ∷ q) e = ap (λ (r : List ℕ). r ++ []) (same-line (x ∷ p) (y ∷ q) e)
 
 module _ (p : List ℕ) (bs : List ℕ) where

@@ -1,25 +1,65 @@
 -- Bytes of which none ends a line, and those up to a line end.
 -- Assumes nothing.
-use mathlib.Core.List.{List, [], _∷_, _++_, append-nil, append-assoc}
-use mathlib.Core.Path.{_≡_, refl, sym, ap, subst, _∙_}
+use mathlib.Core.Bool.{Bool, true, false}
+use mathlib.Core.List.{List, [], _∷_, _++_, append-nil}
+use mathlib.Core.Path.{_≡_, refl, sym, ap, _∙_}
 use Prim.Native.Nat.{ℕ, suc, _+_, _-_, _<_, _≤_}
 use native.Mathlib.Omega.{arith}
-use borrow.Author.Tests.{ne-eqb}
+use borrow.Author.Tests.{ne-eqb, eqb-true, eqb-false}
+use lib.Dec.{eqb}
 use lib.ListN.{length, getD, take, drop, length-drop}
-use lib.Seq.{take-suc, take-add, drop-drop, getD-drop, split-at, append-snoc, length-take-le}
-use Rattle.casefile.specs.Line.{lineOf}
+use lib.Seq.{take-suc, getD-drop, take-all, append-snoc}
+use Rattle.case_line.specs.Line.{lineOf}
+use Rattle.bytes.specs.Bytes.{slice, indexAfter, indexOf}
 use Rattle.casefile.specs.Stream.{openAfter, writtenBy, takenWith}
-use Rattle.casefile.specs.Told.{NoEnd, none, more}
+use Rattle.casefile.specs.Told.{NoEnd, none, more, EndFound}
 use Rattle.casefile.proofs.Chunks.{open-append, written-append}
 
-pub no-end-yet : (chunk : List ℕ) (start : ℕ) → NoEnd (take (start - start) (drop start chunk))
-no-end-yet chunk start =
-    let z : start - start ≡ 0 = omega arith in
-    rw z none
+-- the first line end of a list, or its length where none is
+none-before : (l : List ℕ) → NoEnd (take (indexOf 10 l) l)
+unfolding indexOf indexAfter
+none-before [] = none
+none-before (b ∷ l) = go (eqb b 10) refl (none-before l)
+  where
+    go : (t : Bool) → eqb b 10 ≡ t → NoEnd (take (indexOf 10 l) l) → NoEnd (take (indexAfter t (indexOf 10 l)) (b ∷ l))
+    go true e rest = none
+    go false e rest = more (eqb-false b 10 e) rest
 
-no-end-last : (l : List ℕ) (b : ℕ) → NoEnd l → (b ≡ 10 → ⊥) → NoEnd (l ++ (b ∷ []))
-no-end-last [] b none h = more h none
-no-end-last (x ∷ l) b (more g r) h = more g (no-end-last l b r h)
+index-within : (l : List ℕ) → indexOf 10 l ≤ length l
+unfolding indexOf indexAfter
+index-within [] = omega arith
+index-within (b ∷ l) = go (eqb b 10) (index-within l)
+  where
+    go : (t : Bool) → indexOf 10 l ≤ length l → indexAfter t (indexOf 10 l) ≤ suc (length l)
+    go true rest = omega arith
+    go false rest = omega arith
+
+ends-there : (l : List ℕ) → indexOf 10 l < length l → getD l (indexOf 10 l) 0 ≡ 10
+unfolding indexOf indexAfter
+ends-there [] h = absurd (omega arith)
+ends-there (b ∷ l) h = go (eqb b 10) refl h (ends-there l)
+  where
+    go : (t : Bool) → eqb b 10 ≡ t → indexAfter t (indexOf 10 l) < suc (length l)
+        → (indexOf 10 l < length l → getD l (indexOf 10 l) 0 ≡ 10) → getD (b ∷ l) (indexAfter t (indexOf 10 l)) 0 ≡ 10
+    go true e k rest = eqb-true b 10 e
+    go false e k rest = rest (omega arith)
+
+-- what a search of the chunk from `start` finds
+pub end-found : (chunk : List ℕ) (start : ℕ) {r : ℕ} → start ≤ length chunk → r ≡ start + indexOf 10 (slice start (length chunk) chunk)
+    → EndFound chunk start r
+unfolding slice
+end-found chunk start {r} h is =
+    let all : drop start (take (length chunk) chunk) ≡ drop start chunk = ap (drop start) (take-all (length chunk) chunk (omega arith)) in
+    let there : r ≡ start + indexOf 10 (drop start chunk) = is ∙ ap (λ (q : List ℕ). start + indexOf 10 q) all in
+    let past : r - start ≡ indexOf 10 (drop start chunk) = omega (arith, there) in
+    let within = index-within (drop start chunk) in
+    record {
+      after = omega (arith, there);
+      within = omega (arith, there, within, length-drop start chunk);
+      before = rw past (none-before (drop start chunk));
+      ends = λ k. ap (λ (n : ℕ). getD chunk n 0) there ∙ sym (getD-drop start chunk (indexOf 10 (drop start chunk)) 0)
+          ∙ ends-there (drop start chunk) (omega (arith, there, k, length-drop start chunk));
+    }
 
 module _ (chunk : List ℕ) (start i : ℕ) (after : start ≤ i) (within : i < length chunk) where
   pub next-byte : take (suc (i - start)) (drop start chunk) ≡ take (i - start) (drop start chunk) ++ (getD chunk i 0 ∷ [])
@@ -27,11 +67,6 @@ module _ (chunk : List ℕ) (start i : ℕ) (after : start ≤ i) (within : i < 
       let at : start + (i - start) ≡ i = omega arith in
       take-suc (drop start chunk) (i - start) 0 (omega (arith, length-drop start chunk))
       ∙ ap (λ (b : ℕ). take (i - start) (drop start chunk) ++ (b ∷ [])) (getD-drop start chunk (i - start) 0 ∙ ap (λ (n : ℕ). getD chunk n 0) at)
-
-  pub no-end-more : (getD chunk i 0 ≡ 10 → ⊥) → NoEnd (take (i - start) (drop start chunk)) → NoEnd (take (i + 1 - start) (drop start chunk))
-  no-end-more h n =
-      let m : i + 1 - start ≡ suc (i - start) = omega arith in
-      rw (m, next-byte) (no-end-last _ _ n h)
 
 pub no-end-open : (p s : List ℕ) → NoEnd s → openAfter p s ≡ p ++ s
 unfolding openAfter

@@ -1,12 +1,12 @@
 -- What is kept of an open line, and what is copied.
 -- Assumes nothing.
 use mathlib.Core.List.{List, [], _∷_, _++_}
-use mathlib.Core.Path.{_≡_, refl, sym, ap, _∙_}
+use mathlib.Core.Path.{_≡_, sym, ap, _∙_}
 use Prim.Native.Nat.{ℕ, zero, suc, _+_, _-_, _<_, _≤_, min}
 use native.Mathlib.Numerals.{add-one}
 use native.Mathlib.Omega.{arith}
-use lib.ListN.{length, take, drop, getD, set}
-use lib.Seq.{paste, paste-suc, take-paste, take-all, take-take, take-append-add, length-take-le}
+use lib.ListN.{length, take, getD, set}
+use lib.Seq.{paste, paste-suc, take-paste, take-append-add, length-take-le}
 use Rattle.casefile.specs.Told.{Kept}
 
 -- one more byte copied

@@ -2,17 +2,19 @@
 -- Assumes nothing.
 use mathlib.Core.Bool.{Bool, true, false}
 use mathlib.Core.List.{List, [], _∷_, _++_, append-assoc}
-use mathlib.Core.Path.{_≡_, refl, sym, ap, _∙_}
-use Prim.Native.Nat.{ℕ, zero, suc, _+_, _/_, _<_, _≤_}
+use mathlib.Core.Path.{_≡_, sym, ap, _∙_}
+use Prim.Native.Nat.{ℕ, zero, suc, _/_, _<_, _≤_}
 use native.Mathlib.Omega.{arith}
 use lib.Dec.{eqb}
 use lib.ListN.{length, take, drop, length-append}
 use lib.Seq.{take-at}
 use Rattle.common.specs.Choice.{pick}
-use Rattle.casefile.specs.declared.stream.OpenLine.{OpenLine}
-use Rattle.casefile.specs.declared.stream.ChunkSettled.{ChunkSettled}
+use Rattle.casefile.specs.declared.OpenLine.{OpenLine}
+use Rattle.casefile.specs.declared.ChunkSettled.{ChunkSettled}
+use Rattle.casefile.specs.declared.EndSettled.{EndSettled}
 use Rattle.casefile.specs.File.{listingOf}
-use Rattle.casefile.specs.Stream.{openAfter, writtenBy, writtenAtEnd, takenWith, bytesOf, ChunkTold, Calls, at-end, on-chunk}
+use Rattle.casefile.specs.Stream.{openAfter, writtenBy, writtenAtEnd, takenWith, bytesOf, ChunkTold, endOf, Calls, at-end, on-chunk}
+use Rattle.casefile.proofs.Last.{end-within, end-writes}
 use Rattle.casefile.proofs.Chunks.{open-append, written-append, listing-from, written-kept, end-kept}
 
 taken-choice : (t : Bool) (a b n : ℕ) → a ≤ n → b ≤ n → suc (pick t a b) ≤ suc n
@@ -45,10 +47,14 @@ module _ {o : OpenLine} {chunk out out′ : List ℕ} {r : ChunkSettled} (told :
   written-is : take (r .wrote) out′ ≡ writtenBy (bytesOf o) (take (r .taken) chunk)
   written-is = ap (take (r .wrote)) (told .written) ∙ take-at (writtenBy (bytesOf o) (take (r .taken) chunk)) (drop (r .wrote) out) (r .wrote) (sym (told .wrote))
 
+-- the end writes no more than it has
+pub end-wrote : (o : OpenLine) {r : EndSettled} → r ≡ endOf (bytesOf o) → r .wrote ≤ 46
+end-wrote o e = rw e (end-within (bytesOf o))
+
 calls-write : {o : OpenLine} {file written : List ℕ} → Calls o file written
     → written ≡ writtenBy (bytesOf o) file ++ writtenAtEnd (openAfter (bytesOf o) file)
 unfolding openAfter writtenBy
-calls-write (at-end told) = told .written
+calls-write {o} (at-end told) = ap (λ (r : EndSettled). take (r .wrote) (r .bytes)) told ∙ end-writes (bytesOf o)
 calls-write {o} (on-chunk {chunk = chunk} {out = out} {out′ = out′} {rest = rest} {written = written} {r = r} told calls) =
     let p = bytesOf o in
     let part = take (r .taken) chunk in

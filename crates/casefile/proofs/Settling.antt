@@ -1,18 +1,22 @@
 -- A chunk settled line by line.
 -- Assumes nothing.
-use mathlib.Core.List.{List, [], _∷_, _++_, append-assoc, append-nil}
+use mathlib.Core.Bool.{Bool, true, false, _&&_, false≢true}
+use mathlib.Core.List.{List, [], _∷_, _++_, append-nil}
 use mathlib.Core.Path.{_≡_, refl, sym, ap, subst, _∙_}
 use Prim.Native.Nat.{ℕ, zero, suc, _+_, _-_, _/_, _<_, _≤_}
 use native.Mathlib.Nat.{zero-add, sub-zero}
 use native.Mathlib.Numerals.{add-one}
 use native.Mathlib.Omega.{arith}
-use lib.ListN.{length, getD, take, drop, length-append, length-drop, take-append-drop, drop-of-length-le}
+use borrow.Author.Tests.{ltb-true, ltb-false, leb-true, leb-false}
+use lib.Dec.{ltb, leb}
+use lib.ListN.{length, take, drop, length-append, length-drop, take-append-drop, drop-of-length-le}
 use lib.Seq.{paste, length-paste, take-all, take-at, take-add, drop-cons, drop-drop, drop-append-add, length-take-le}
-use Rattle.casefile.specs.declared.stream.OpenLine.{OpenLine}
-use Rattle.casefile.specs.Line.{lineOf}
+use Rattle.casefile.specs.declared.OpenLine.{OpenLine}
+use Rattle.casefile.specs.declared.Progress.{Progress}
+use Rattle.case_line.specs.Line.{lineOf}
 use Rattle.casefile.specs.Stream.{openAfter, writtenBy, takenWith, bytesOf, ChunkTold}
-use Rattle.casefile.specs.Told.{NoEnd, EndFound, Kept}
-use Rattle.casefile.proofs.Shapes.{length-line}
+use Rattle.casefile.specs.Told.{NoEnd, EndFound, Kept, PartTold, line-ends, goes-on}
+use Rattle.case_line.proofs.Shapes.{length-line}
 use Rattle.casefile.proofs.Chunks.{open-append, written-append, line-kept, kept-more}
 use Rattle.casefile.proofs.Ends.{next-byte, no-end-open, no-end-written, no-end-taken, end-open, end-written}
 
@@ -27,6 +31,14 @@ pub record Settling (p chunk old bytes out : List ℕ) (len taken wrote : ℕ) :
   pub count : wrote ≡ length (writtenBy p (take taken chunk))
   pub written : out ≡ writtenBy p (take taken chunk) ++ drop wrote old
   pub ahead : takenWith (length old / 46) chunk ≡ taken + takenWith ((length old - wrote) / 46) (drop taken chunk)
+
+-- a further part: there is one, and room for its line
+pub further : (taken n free : ℕ) → ltb taken n && leb 46 free ≡ true → (taken < n) × (46 ≤ free)
+further taken n free e = go (ltb taken n) refl e
+  where
+    go : (b : Bool) → ltb taken n ≡ b → b && leb 46 free ≡ true → (taken < n) × (46 ≤ free)
+    go true more room = (ltb-true _ _ more, leb-true _ _ room)
+    go false _ none = absurd (false≢true none)
 
 pub at-start : (bytes chunk old : List ℕ) (len : ℕ) → length bytes ≡ 286 → len ≤ 286 → Settling (take len bytes) chunk old bytes old len 0 0
 unfolding openAfter writtenBy
@@ -94,7 +106,7 @@ taken-more n part rest h = no-end-taken n part (10 ∷ rest) h
 module _ {p chunk old bytes out : List ℕ} {len taken wrote : ℕ} (s : Settling p chunk old bytes out len taken wrote)
     (end : ℕ) (f : EndFound chunk taken end) (free : 46 ≤ length out - wrote) where
   -- a line ends
-  pub line-ended : (bytes′ row out′ : List ℕ) → end < length chunk → length bytes′ ≡ length bytes
+  line-ended : (bytes′ row out′ : List ℕ) → end < length chunk → length bytes′ ≡ length bytes
       → row ≡ lineOf (take len bytes ++ take (end - taken) (drop taken chunk)) → out′ ≡ paste out wrote row 46
       → Settling p chunk old bytes′ out′ 0 (end + 1) (wrote + 46)
   line-ended bytes′ row out′ h long is e =
@@ -126,7 +138,7 @@ module _ {p chunk old bytes out : List ℕ} {len taken wrote : ℕ} (s : Settlin
       }
 
   -- the line goes on past the chunk
-  pub line-goes-on : (bytes′ : List ℕ) (r : ℕ) → length bytes′ ≡ length bytes → Kept bytes len (take (end - taken) (drop taken chunk)) bytes′ r
+  line-goes-on : (bytes′ : List ℕ) (r : ℕ) → length bytes′ ≡ length bytes → Kept bytes len (take (end - taken) (drop taken chunk)) bytes′ r
       → Settling p chunk old bytes′ out r end wrote
   line-goes-on bytes′ r long k =
       let part = take (end - taken) (drop taken chunk) in
@@ -156,6 +168,25 @@ module _ {p chunk old bytes out : List ℕ} {len taken wrote : ℕ} (s : Settlin
         ahead = s .ahead ∙ ap (λ (k : ℕ). taken + k) more ∙ omega (arith, f .after);
       }
 
+-- a part settled
+module _ {chunk bytes out bytes′ out′ : List ℕ} {at r : Progress} (told : PartTold bytes chunk out bytes′ out′ at r) where
+  pub part-settled : {p old : List ℕ} → Settling p chunk old bytes out (at .len) (at .taken) (at .wrote) → 46 ≤ length out - at .wrote
+      → length bytes′ ≡ length bytes → Settling p chunk old bytes′ out′ (r .len) (r .taken) (r .wrote)
+  part-settled {p} {old} s free long = go told
+    where
+      go : {q : Progress} → PartTold bytes chunk out bytes′ out′ at q → Settling p chunk old bytes′ out′ (q .len) (q .taken) (q .wrote)
+      go (line-ends f h is e) = line-ended s _ f free bytes′ _ out′ h long is e
+      go (goes-on {end = end} {len = len} f h k e) =
+          subst (λ (l : List ℕ). Settling p chunk old bytes′ l len end (at .wrote)) (sym e) (line-goes-on s end f free bytes′ len long k)
+
+  -- something of it
+  pub part-moves : at .taken < length chunk → at .taken < r .taken
+  part-moves h = go told
+    where
+      go : {q : Progress} → PartTold bytes chunk out bytes′ out′ at q → at .taken < q .taken
+      go (line-ends f _ _ _) = omega (arith, f .after)
+      go (goes-on _ end _ _) = omega (arith, h)
+
 taken-none : (n : ℕ) → takenWith n [] ≡ 0
 unfolding takenWith
 taken-none zero = refl
@@ -180,11 +211,20 @@ module _ (o : OpenLine) {p chunk old bytes out : List ℕ} {len taken wrote : �
       }
 
   -- the chunk is through
-  pub at-end : length chunk ≤ taken → ChunkTold o chunk old out (record { after = record { bytes = bytes; len = len }; taken = taken; wrote = wrote })
+  at-end : length chunk ≤ taken → ChunkTold o chunk old out (record { after = record { bytes = bytes; len = len }; taken = taken; wrote = wrote })
   at-end h = at-stop (ap (takenWith _) (drop-of-length-le chunk h) ∙ taken-none _)
 
   -- no further line fits
-  pub at-full : length out - wrote < 46 → ChunkTold o chunk old out (record { after = record { bytes = bytes; len = len }; taken = taken; wrote = wrote })
+  at-full : length out - wrote < 46 → ChunkTold o chunk old out (record { after = record { bytes = bytes; len = len }; taken = taken; wrote = wrote })
   at-full h =
       let none : (length old - wrote) / 46 ≡ 0 = omega (arith, s .out-long) in
       at-stop (ap (λ (k : ℕ). takenWith k (drop taken chunk)) none ∙ no-room (drop taken chunk))
+
+  pub chunk-settled : ltb taken (length chunk) && leb 46 (length out - wrote) ≡ false
+      → ChunkTold o chunk old out (record { after = record { bytes = bytes; len = len }; taken = taken; wrote = wrote })
+  chunk-settled e = go (ltb taken (length chunk)) refl e
+    where
+      go : (b : Bool) → ltb taken (length chunk) ≡ b → b && leb 46 (length out - wrote) ≡ false
+          → ChunkTold o chunk old out (record { after = record { bytes = bytes; len = len }; taken = taken; wrote = wrote })
+      go false through _ = at-end (ltb-false _ _ through)
+      go true _ full = at-full (leb-false _ _ full)

@@ -4,7 +4,7 @@ use mathlib.Core.List.{List, [], _∷_, _++_}
 use Prim.Native.Nat.{ℕ}
 use lib.Dec.{eqb}
 use Rattle.common.specs.Choice.{pick}
-use Rattle.casefile.specs.Line.{lineOf}
+use Rattle.case_line.specs.Line.{lineOf}
 
 -- the end of the file ends a line that has begun; after a last byte 10, and in an empty file, none has
 unfoldable pub lastLine : List ℕ → List (List ℕ)

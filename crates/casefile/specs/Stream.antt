@@ -3,14 +3,14 @@
 -- Assumes nothing.
 use mathlib.Core.List.{List, [], _∷_, _++_}
 use mathlib.Core.Path.{_≡_}
-use Prim.Native.Nat.{ℕ, zero, suc, _/_, _≤_}
+use Prim.Native.Nat.{ℕ, zero, suc, _/_}
 use lib.Dec.{eqb}
-use lib.ListN.{length, take, drop}
+use lib.ListN.{length, take, drop, replicate}
 use Rattle.common.specs.Choice.{pick}
-use Rattle.casefile.specs.declared.stream.OpenLine.{OpenLine}
-use Rattle.casefile.specs.declared.stream.ChunkSettled.{ChunkSettled}
-use Rattle.casefile.specs.declared.stream.EndSettled.{EndSettled}
-use Rattle.casefile.specs.Line.{lineOf}
+use Rattle.casefile.specs.declared.OpenLine.{OpenLine}
+use Rattle.casefile.specs.declared.ChunkSettled.{ChunkSettled}
+use Rattle.casefile.specs.declared.EndSettled.{EndSettled}
+use Rattle.case_line.specs.Line.{lineOf}
 use Rattle.casefile.specs.File.{lastLine, listLines}
 
 -- the line that is open after a chunk, where p was open before it
@@ -45,10 +45,10 @@ pub record ChunkTold (o : OpenLine) (chunk out out′ : List ℕ) (r : ChunkSett
   pub wrote : r .wrote ≡ length (writtenBy (bytesOf o) (take (r .taken) chunk))
   pub written : out′ ≡ writtenBy (bytesOf o) (take (r .taken) chunk) ++ drop (r .wrote) out
 
--- what the end of the file gives: a line or nothing, in the first bytes
-pub record EndTold (o : OpenLine) (r : EndSettled) : Type 0 where
-  pub within : r .wrote ≤ 46
-  pub written : take (r .wrote) (r .bytes) ≡ writtenAtEnd (bytesOf o)
+-- what the end of the file gives: the open line's line of the listing; where none is open, nothing, and 46 zeros
+unfoldable pub endOf : List ℕ → EndSettled
+endOf [] = record { bytes = replicate 46 0; wrote = 0 }
+endOf (b ∷ bs) = record { bytes = lineOf (b ∷ bs); wrote = 46 }
 
 -- what settling chunk after chunk writes, then the end
 unfoldable pub writtenThrough : List ℕ → List (List ℕ) → List ℕ
@@ -63,7 +63,7 @@ fileOf (c ∷ cs) = c ++ fileOf cs
 -- Any calls one after the other, then the call at the end: the open line before them, the bytes that they work through
 -- and the bytes that they write.
 pub data Calls : OpenLine → List ℕ → List ℕ → Type 0 where
-  at-end : {o : OpenLine} {r : EndSettled} → EndTold o r → Calls o [] (take (r .wrote) (r .bytes))
+  at-end : {o : OpenLine} {r : EndSettled} → r ≡ endOf (bytesOf o) → Calls o [] (take (r .wrote) (r .bytes))
   on-chunk : {o : OpenLine} {chunk out out′ rest written : List ℕ} {r : ChunkSettled}
       → ChunkTold o chunk out out′ r → Calls (r .after) rest written
       → Calls o (take (r .taken) chunk ++ rest) (take (r .wrote) out′ ++ written)

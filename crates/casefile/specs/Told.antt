@@ -1,16 +1,12 @@
--- What the steps of settling a line and a chunk promise each other.
+-- What the steps of settling a chunk promise each other.
 -- Assumes nothing.
-use mathlib.Core.Bool.{Bool, true}
 use mathlib.Core.List.{List, [], _∷_, _++_}
 use mathlib.Core.Path.{_≡_}
-use Prim.Native.Nat.{ℕ, _-_, _≤_, _<_}
+use Prim.Native.Nat.{ℕ, _+_, _-_, _≤_, _<_}
 use lib.ListN.{length, getD, take, drop}
-use Rattle.casefile.specs.Shape.{allDigits, marksIn}
-
--- whether all are digits, and their numbers where they are
-pub record MarksTold (digits marks : List ℕ) (r : Bool) : Type 0 where
-  pub told : r ≡ allDigits digits
-  pub are : r ≡ true → take (length digits) marks ≡ marksIn digits
+use lib.Seq.{paste}
+use Rattle.case_line.specs.Line.{lineOf}
+use Rattle.casefile.specs.declared.Progress.{Progress}
 
 -- no byte ends a line
 pub data NoEnd : List ℕ → Type 0 where
@@ -28,3 +24,12 @@ pub record EndFound (chunk : List ℕ) (start r : ℕ) : Type 0 where
 pub record Kept (bytes : List ℕ) (len : ℕ) (part bytes′ : List ℕ) (r : ℕ) : Type 0 where
   pub small : r ≤ 286
   pub are : take r bytes′ ≡ take 286 (take len bytes ++ part)
+
+-- the next part of a chunk settled: its line ends and is written, or goes on and is kept
+pub data PartTold (bytes chunk out bytes′ out′ : List ℕ) (at : Progress) : Progress → Type 0 where
+  line-ends : {end : ℕ} {row : List ℕ} → EndFound chunk (at .taken) end → end < length chunk
+      → row ≡ lineOf (take (at .len) bytes ++ take (end - at .taken) (drop (at .taken) chunk)) → out′ ≡ paste out (at .wrote) row 46
+      → PartTold bytes chunk out bytes′ out′ at (record { len = 0; taken = end + 1; wrote = at .wrote + 46 })
+  goes-on : {end len : ℕ} → EndFound chunk (at .taken) end → length chunk ≤ end
+      → Kept bytes (at .len) (take (end - at .taken) (drop (at .taken) chunk)) bytes′ len → out′ ≡ out
+      → PartTold bytes chunk out bytes′ out′ at (record { len = len; taken = end; wrote = at .wrote })

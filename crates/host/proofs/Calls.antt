@@ -6,8 +6,8 @@ use Prim.Native.Nat.{ℕ, _≤_, _<_}
 use native.Mathlib.Omega.{arith}
 use borrow.Author.Tests.{lt-ltb, le-ltb}
 use lib.ListN.{length, getD, drop}
-use Rattle.bytes.specs.Bytes.{storedIn}
-use Rattle.bytes.proofs.Writing.{stored-front}
+use Rattle.number_bytes.specs.Bytes.{storedIn}
+use Rattle.number_bytes.proofs.Writing.{stored-front}
 use Rattle.terms.specs.declared.Terms.{Terms}
 use Rattle.quotes.specs.Quote.{QuoteNumbers, quoteOf}
 use Rattle.settlement.specs.Settle.{SettleNumbers, settleOf}

@@ -11,7 +11,7 @@ use Rattle.quotes.specs.Quote.{QuoteNumbers, quoteOf}
 use Rattle.settlement.specs.Settle.{SettleNumbers, settleOf}
 use Rattle.settlement.specs.Told.{SettleBounds}
 use Rattle.settlement.proofs.Bounds.{settle-bounds}
-use Rattle.bytes.specs.Bytes.{lowBytes, eightBytes, inBytes}
+use Rattle.number_bytes.specs.Bytes.{lowBytes, eightBytes, inBytes}
 use Rattle.host.specs.Calls.{quoteBytes, settleBytes, hostQuoteOf, hostSettleOf}
 use Rattle.host.specs.Reading.{numberOf, numberAt, QuoteRead, SettleRead}
 use Rattle.host.proofs.Calls.{quote-enough, settle-enough}

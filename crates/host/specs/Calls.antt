@@ -8,7 +8,7 @@ use Rattle.common.specs.Choice.{pick}
 use Rattle.terms.specs.declared.Terms.{Terms}
 use Rattle.quotes.specs.Quote.{QuoteNumbers, quoteOf}
 use Rattle.settlement.specs.Settle.{SettleNumbers, settleOf}
-use Rattle.bytes.specs.Bytes.{inBytes}
+use Rattle.number_bytes.specs.Bytes.{inBytes}
 
 -- the terms that a call's numbers stand for
 abbrev pub terms : (age years months option payer term amount : ℕ) → Terms

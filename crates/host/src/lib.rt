@@ -65,7 +65,7 @@ pub extern "C" fn ap_quote(
     let existing = PensionPence(existing_pence);
     let register = Register { last: last_number };
     let told = quote_numbers(quotes::quote(t, existing, register));
-    bytes::put_all(out, &told);
+    number_bytes::put_all(out, &told);
     told[0] as u32
 }
 
@@ -107,6 +107,6 @@ pub extern "C" fn ap_settle(
         n.credit,
         n.refund,
     ];
-    bytes::put_all(out, &told);
+    number_bytes::put_all(out, &told);
     n.refusal as u32
 }

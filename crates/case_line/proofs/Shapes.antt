@@ -1,0 +1,88 @@
+-- Which line of the listing each shape of a line has.
+-- Assumes nothing.
+use mathlib.Core.Bool.{Bool, true, false, _||_, false≢true}
+use mathlib.Core.List.{List}
+use mathlib.Core.Path.{_≡_, refl, sym, ap, _∙_}
+use Prim.Native.Nat.{ℕ, _-_, _<_, _≤_}
+use native.Mathlib.Omega.{arith}
+use borrow.Author.Tests.{lt-ltb, le-ltb, ltb-false}
+use lib.Dec.{ltb}
+use lib.ListN.{length, take, drop, length-drop}
+use lib.Seq.{take-all}
+use Rattle.common.specs.Choice.{pick}
+use Rattle.settlement.specs.Settle.{settleOf}
+use Rattle.case_line.specs.declared.Case.{Case}
+use Rattle.case_line.specs.declared.Fields.{Fields}
+use Rattle.case_line.specs.declared.Fields.the-variants.{Whole, WrongShape}
+use Rattle.case_line.specs.Shape.{fieldsOf, allDigits}
+use Rattle.case_line.specs.Line.{listedAs, wrongShape, settledLine, lineOf}
+use Rattle.case_line.specs.Told.{MarksTold}
+use Rattle.case_line.proofs.Row.{length-listed}
+
+module _ (c : Case) {digits marks : List ℕ} {r : Bool} (told : MarksTold digits marks r) where
+  pub no-marks : r ≡ false → settledLine (Whole c) digits ≡ wrongShape
+  unfolding settledLine
+  no-marks f = rw (sym (told .told) ∙ f)
+
+  pub settled : r ≡ true → settledLine (Whole c) digits ≡ listedAs (c .election) (settleOf (c .terms) (take (length digits) marks))
+  unfolding settledLine
+  settled t =
+      rw (sym (told .told) ∙ t)
+      (ap (λ (ms : List ℕ). listedAs (c .election) (settleOf (c .terms) ms)) (sym (told .are t)))
+
+-- one test of both ends of a range
+either : (a b : Bool) (wrong right : List ℕ) → a || b ≡ true → pick a wrong (pick b wrong right) ≡ wrong
+either true b wrong right e = refl
+either false true wrong right e = refl
+either false false wrong right e = absurd (false≢true e)
+
+neither : (a b : Bool) → a || b ≡ false → (a ≡ false) × (b ≡ false)
+neither true b e = absurd (false≢true (sym e))
+neither false b e = (refl, e)
+
+module _ (line : List ℕ) where
+  pub not-in-length : ltb (length line) 29 || ltb 285 (length line) ≡ true → lineOf line ≡ wrongShape
+  unfolding lineOf
+  not-in-length e = either (ltb (length line) 29) (ltb 285 (length line)) _ _ e
+
+  pub lengths : ltb (length line) 29 || ltb 285 (length line) ≡ false → (29 ≤ length line) × (length line ≤ 285)
+  lengths e =
+      let both = neither (ltb (length line) 29) (ltb 285 (length line)) e in
+      (ltb-false _ _ (both .0), ltb-false _ _ (both .1))
+
+  pub long : 29 ≤ length line → 285 < length line → lineOf line ≡ wrongShape
+  unfolding lineOf
+  long low h = rw (le-ltb (length line) 29 low, lt-ltb 285 (length line) h)
+
+  module _ (low : 29 ≤ length line) (high : length line ≤ 285) where
+    in-length : lineOf line ≡ settledLine (fieldsOf line) (drop 29 line)
+    unfolding lineOf
+    in-length = rw (le-ltb (length line) 29 low, le-ltb 285 (length line) high)
+
+    pub no-fields : fieldsOf line ≡ WrongShape → lineOf line ≡ wrongShape
+    unfolding settledLine
+    no-fields e = in-length ∙ rw e
+
+    -- the digits are the whole rest of the line
+    pub whole : {c : Case} → fieldsOf line ≡ Whole c → lineOf line ≡ settledLine (Whole c) (take (length line - 29) (drop 29 line))
+    whole e =
+        in-length ∙ ap (λ (f : Fields). settledLine f (drop 29 line)) e
+        ∙ ap (settledLine _) (sym (take-all (length line - 29) (drop 29 line) (omega (arith, length-drop 29 line))))
+
+length-wrong : length wrongShape ≡ 46
+unfolding wrongShape
+length-wrong = length-listed _ _
+
+length-choice : (t : Bool) (a b : List ℕ) → length a ≡ 46 → length b ≡ 46 → length (pick t a b) ≡ 46
+length-choice true a b p q = p
+length-choice false a b p q = q
+
+length-settled : (f : Fields) (digits : List ℕ) → length (settledLine f digits) ≡ 46
+unfolding settledLine
+length-settled WrongShape digits = length-wrong
+length-settled (Whole c) digits = length-choice (allDigits digits) _ _ (length-listed _ _) length-wrong
+
+-- a line of the listing has 46 bytes
+pub length-line : (line : List ℕ) → length (lineOf line) ≡ 46
+unfolding lineOf
+length-line line = length-choice (ltb (length line) 29) _ _ length-wrong (length-choice (ltb 285 (length line)) _ _ length-wrong (length-settled (fieldsOf line) (drop 29 line)))

@@ -1,0 +1,77 @@
+-- `case_line::read_marks` meets its contract. The invariant: what is passed is digits, and their numbers are written.
+-- Assumes nothing.
+use mathlib.Core.Path.{refl, _∙_}
+use Prim.Native.Nat.{_-_}
+use native.Mathlib.Omega.{arith}
+use lib.ListN.{length}
+use Rattle.case_line.proofs.Marks.{MarksRead, no-marks, mark-more, mark-low, mark-high, marks-end}
+use borrow.Author.Needs.{needs}
+use Rattle.case_line.proofs.read_marks.Statement.{statement}
+use Rattle.case_line.proofs.read_marks.Tie as tie
+
+abbrev Inv-loop : tie.InvT-loop
+Inv-loop digits marks₀ i₀ marks i = MarksRead digits marks₀ marks i
+
+abbrev μ-loop : tie.MeasureT-loop
+μ-loop digits marks₀ i₀ marks i = length digits - i
+
+loop-holds : tie.Need-loop-holds Inv-loop μ-loop
+loop-holds c = record { within = search needs; long = refl; digits = refl; numbers = refl }
+
+shared-slice-read-b : tie.Need-shared-slice-read-b Inv-loop μ-loop
+shared-slice-read-b c = search needs
+
+same-length : tie.Need-same-length Inv-loop μ-loop
+same-length c = c .before .before .before .loop .inv .long
+
+returns : tie.Need-returns Inv-loop μ-loop
+returns c =
+    let w = c .before .before .before .loop in
+    no-marks _ _ (w .inv .digits ∙ mark-low _ _ (c .before .before .loop-test .taken) (c .if1 .taken))
+
+same-length-2 : tie.Need-same-length-2 Inv-loop μ-loop
+same-length-2 c = c .before .before .before .before .loop .inv .long
+
+returns-2 : tie.Need-returns-2 Inv-loop μ-loop
+returns-2 c =
+    let w = c .before .before .before .before .loop in
+    no-marks _ _ (w .inv .digits ∙ mark-high _ _ (c .before .before .before .loop-test .taken) (c .before .if1 .left) (c .if2 .taken))
+
+slice-write-marks : tie.Need-slice-write-marks Inv-loop μ-loop
+slice-write-marks c = omega (arith, c .before .before .before .before .loop .inv .long)
+
+add-i : tie.Need-add-i Inv-loop μ-loop
+add-i c = search needs
+
+loop-less : tie.Need-loop-less Inv-loop μ-loop
+loop-less c = search needs
+
+loop-again : tie.Need-loop-again Inv-loop μ-loop
+loop-again c =
+    let w = c .before .before .before .before .loop in
+    mark-more _ _ _ _ (w .inv) (c .before .before .before .loop-test .taken) (c .before .before .before .before .before .pre) (c .before .if1 .left) (c .if2 .left)
+
+same-length-3 : tie.Need-same-length-3 Inv-loop μ-loop
+same-length-3 c = c .before .loop .inv .long
+
+returns-3 : tie.Need-returns-3 Inv-loop μ-loop
+returns-3 c = marks-end _ _ _ _ (c .before .loop .inv) (c .loop-test .left)
+
+pub read-marks-spec : {M : Type 1} → statement M
+read-marks-spec =
+    tie.close
+    (tie.spec
+    Inv-loop
+    μ-loop
+    loop-holds
+    shared-slice-read-b
+    same-length
+    returns
+    same-length-2
+    returns-2
+    slice-write-marks
+    add-i
+    loop-less
+    loop-again
+    same-length-3
+    returns-3)

@@ -1,0 +1,41 @@
+-- Document 01, "The case file": one line of the file to one line of the listing.
+-- Assumes nothing.
+use mathlib.Core.List.{List, [], _∷_, _++_}
+use Prim.Native.Nat.{ℕ}
+use lib.Dec.{ltb}
+use lib.ListN.{length, drop}
+use Rattle.common.specs.Choice.{pick}
+use Rattle.text.specs.Column.{columnOf}
+use Rattle.settlement.specs.Settle.{SettleNumbers, settleOf}
+use Rattle.case_line.specs.declared.Case.{Case}
+use Rattle.case_line.specs.declared.Fields.{Fields}
+use Rattle.case_line.specs.declared.Fields.the-variants.{Whole, WrongShape}
+use Rattle.case_line.specs.Shape.{fieldsOf, allDigits, marksIn}
+
+-- the seven columns of a line of the listing, 45 bytes, and its line end
+unfoldable pub listedAs : ℕ → SettleNumbers → List ℕ
+listedAs election n =
+    columnOf 6 election
+    ++ columnOf 3 (n .refusal)
+    ++ columnOf 4 (n .place)
+    ++ columnOf 2 (n .status)
+    ++ columnOf 10 (n .contribution)
+    ++ columnOf 10 (n .credit)
+    ++ columnOf 10 (n .refund)
+    ++ (10 ∷ [])
+
+-- the line for a wrong shape: the refusal 15 and nothing else
+unfoldable pub wrongShape : List ℕ
+wrongShape = listedAs 0 (record { refusal = 15; place = 0; contribution = 0; status = 0; credit = 0; refund = 0 })
+
+-- fields and marks, settled as Settle does, under the election's own number
+unfoldable pub settledLine : Fields → List ℕ → List ℕ
+settledLine WrongShape digits = wrongShape
+settledLine (Whole c) digits = pick (allDigits digits) (listedAs (c .election) (settleOf (c .terms) (marksIn digits))) wrongShape
+
+-- a line of at most 285 bytes has its eight fields and up to 256 marks; any other shape is 15
+unfoldable pub lineOf : List ℕ → List ℕ
+lineOf line =
+    pick (ltb (length line) 29) wrongShape
+    (pick (ltb 285 (length line)) wrongShape
+    (settledLine (fieldsOf line) (drop 29 line)))
