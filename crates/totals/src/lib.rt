@@ -82,8 +82,7 @@ pub fn member_total(records: &[Contract]) -> Total
     let mut t = opening(records.len());
     let mut i = 0;
     while i < t.end {
-        let c = records[i];
-        t = add(t, c, i);
+        t = add(t, records[i], i);
         i += 1;
     }
     t.total

@@ -186,7 +186,7 @@ module _ {M : Type 1} (𝓤 : URA M) (H : Heap 𝓤) (A : Atoms 𝓤) (W : Given
       done !
 
   module _ (𝓣 : Tables 𝓤 H) (known : Triple 𝓤 (𝓣 .C #totals·add) (Add 𝓤 H A at-mem run)) (q′ : Share)
-      (l₀ l₁ l₂ l₃ l₄ l₅ l₆ l₇ l₈ l₉ : ℕ) where
+      (l₀ l₁ l₂ l₃ l₄ l₅ l₆ l₇ l₈ : ℕ) where
     abbrev C : Calls 𝓤 H
     C = 𝓣 .C
 
@@ -202,12 +202,11 @@ module _ {M : Type 1} (𝓤 : URA M) (H : Heap 𝓤) (A : Atoms 𝓤) (W : Given
         ∷ (slice, l₁)
         ∷ (T′.mir, l₂)
         ∷ (tyInt w64, l₃)
-        ∷ (K′.mir, l₄)
-        ∷ (tyInt w64, l₅)
-        ∷ (tyBool, l₆)
-        ∷ (tyInt w64, l₇)
-        ∷ (tyPtr, l₈)
-        ∷ (K′.mir, l₉)
+        ∷ (tyInt w64, l₄)
+        ∷ (tyBool, l₅)
+        ∷ (tyInt w64, l₆)
+        ∷ (tyPtr, l₇)
+        ∷ (K′.mir, l₈)
         ∷ []
 
     -- the loop's invariant: a share of the row, what shuts it, what the slice owns; then the locals, the last first
@@ -216,18 +215,16 @@ module _ {M : Type 1} (𝓤 : URA M) (H : Heap 𝓤) (A : Atoms 𝓤) (W : Given
         ‵ (row K.the-row q′ cs b o)
         ∷ ‵ (fobor κ q (arr-parts (shares K.the-row) (length cs) .part q′ cs b o))
         ∷ ‵ (ShrSlice (named 0) κ K.the-row .own (x .0) (at .0))
-        ∷ ‵ (froom K′.mir l₉ 0)
-        ∷ ‵ (fdies K′.mir l₉)
-        ∷ ‵ (froom tyPtr l₈ 0)
-        ∷ ‵ (fdies tyPtr l₈)
-        ∷ ‵ (froom (tyInt w64) l₇ 0)
-        ∷ ‵ (fdies (tyInt w64) l₇)
-        ∷ ‵ (froom tyBool l₆ 0)
-        ∷ ‵ (fdies tyBool l₆)
-        ∷ ‵ (froom (tyInt w64) l₅ 0)
-        ∷ ‵ (fdies (tyInt w64) l₅)
-        ∷ ‵ (froom K′.mir l₄ 0)
-        ∷ ‵ (fdies K′.mir l₄)
+        ∷ ‵ (froom K′.mir l₈ 0)
+        ∷ ‵ (fdies K′.mir l₈)
+        ∷ ‵ (froom tyPtr l₇ 0)
+        ∷ ‵ (fdies tyPtr l₇)
+        ∷ ‵ (froom (tyInt w64) l₆ 0)
+        ∷ ‵ (fdies (tyInt w64) l₆)
+        ∷ ‵ (froom tyBool l₅ 0)
+        ∷ ‵ (fdies tyBool l₅)
+        ∷ ‵ (froom (tyInt w64) l₄ 0)
+        ∷ ‵ (fdies (tyInt w64) l₄)
         ∷ ‵ (fat fullShare (tyInt w64) l₃ 0 (vint w64 (u .i)))
         ∷ ‵ (fdies (tyInt w64) l₃)
         ∷ ‵ (fat fullShare T′.mir l₂ 0 (tallyVal (u .t)))
@@ -247,24 +244,22 @@ module _ {M : Type 1} (𝓤 : URA M) (H : Heap 𝓤) (A : Atoms 𝓤) (W : Given
     turn-by : (u : Turn cs) (y : Bool) → ltb (u .i) (u .t .end) ≡ y → Sq W (At u) (runs C Λ En mir.turn-1 (anyQ (Turned u)))
     unfolding afterTurn
     turn-by u true e =
-        assigns ! (bin ! (load ! (from ! (stop !)) (look ! 15 refl)) (load ! (from ! (fld ! refl (stop !))) (look-in ! 17 (sub ! 0 refl (whole !)))) tt) (from ! (stop !)) (init ! 9 refl (tt, tt)) $
-        rewrite ! 9 (λ (y : Bool). ‵ (fat fullShare tyBool l₆ 0 (vbool y))) e refl $
+        assigns ! (bin ! (load ! (from ! (stop !)) (look ! 13 refl)) (load ! (from ! (fld ! refl (stop !))) (look-in ! 15 (sub ! 0 refl (whole !)))) tt) (from ! (stop !)) (init ! 9 refl (tt, tt)) $
+        rewrite ! 9 (λ (y : Bool). ‵ (fat fullShare tyBool l₅ 0 (vbool y))) e refl $
         stays ! (load ! (from ! (stop !)) (look ! 9 refl)) $
-        -- c = records[i]
-        assigns ! (bin ! (load ! (from ! (stop !)) (look ! 15 refl)) (lit ! tt) (record { fits = bytes })) (from ! (stop !)) (init ! 7 refl (tt, record { fits = bytes })) $
-        assigns ! (bin ! (load ! (from ! (fld ! refl (stop !))) (look-in ! 19 (sub ! 0 refl (whole !)))) (load ! (from ! (stop !)) (look ! 7 refl)) tt) (from ! (stop !)) (init ! 5 refl (tt, tt)) $
-        rewrite ! 5 (λ (p : ℕ). ‵ (fat fullShare tyPtr l₈ 0 (vptr b p))) (sym (place-is 280 o (u .i))) refl $
+        -- records[i]
+        assigns ! (bin ! (load ! (from ! (stop !)) (look ! 13 refl)) (lit ! tt) (record { fits = bytes })) (from ! (stop !)) (init ! 7 refl (tt, record { fits = bytes })) $
+        assigns ! (bin ! (load ! (from ! (fld ! refl (stop !))) (look-in ! 17 (sub ! 0 refl (whole !)))) (load ! (from ! (stop !)) (look ! 7 refl)) tt) (from ! (stop !)) (init ! 5 refl (tt, tt)) $
+        rewrite ! 5 (λ (p : ℕ). ‵ (fat fullShare tyPtr l₇ 0 (vptr b p))) (sym (place-is 280 o (u .i))) refl $
         elem-out ! K.the-row (Is K.the-row) (shows 𝓤 H A K.the-row) (LL.vals K.the-type K′.the-laws) (LL.tells K.the-type K′.the-laws) q′ cs (u .i) blank b o inside (λ held.
-        -- [the record; what it owns; the others; what shuts; what the slice owns; _9; …; _8; …; _7; …; _6; …; _5; …; _4; …]
+        -- [the record; what it owns; the others; what shuts; what the slice owns; _8; …; _7; …; _6; …; _5; …; _4; …]
         assigns ! (of-opd ! (load ! (from ! (hop ! (look ! 7 refl) (stop !))) (look-raw ! 0 refl))) (from ! (stop !))
         (init ! 5 refl (LL.lawful K.the-type K′.the-laws 𝓤 H A W .typed this _ held .0)) $
-        assigns ! (of-opd ! (load ! (from ! (stop !)) (look ! 5 refl))) (from ! (stop !))
-        (init ! 15 refl (LL.lawful K.the-type K′.the-laws 𝓤 H A W .typed this _ held .0)) $
         elem-back ! K.the-row q′ cs (u .i) blank (recordVal this ∷ []) b o inside $
-        -- t = add(t, c, i)
+        -- t = add(t, records[i], i)
         use0 W (raw (Add 𝓤 H A at-mem run .pre (to-add (u .t) this (u .i)))) (goes-add (u .t) this (u .i) few (u .fits) (u .held) held) $
         calls-at ! (fmOf 𝓤 H (W .laws) 𝓣) (Add 𝓤 H A at-mem run) known (to-add (u .t) this (u .i))
-        (and-then ! (load ! (from ! (stop !)) (look ! 18 refl)) (and-then ! (load ! (from ! (stop !)) (look ! 14 refl)) (and-then ! (load ! (from ! (stop !)) (look ! 16 refl)) (no-more !)))) (λ w.
+        (and-then ! (load ! (from ! (stop !)) (look ! 16 refl)) (and-then ! (load ! (from ! (stop !)) (look ! 4 refl)) (and-then ! (load ! (from ! (stop !)) (look ! 14 refl)) (no-more !)))) (λ w.
         use1 W
         (later (some (λ (r : Tally). (‵ ftrue ⊛ ‵ (T.the-row .own r (w ∷ []))) ⊛ raw (ensured 𝓤 H A add.ended (add.clauses 𝓤 H A at-mem run) tt (u .t, (this, (u .i, tt))) tt r))))
         (id⊢ 𝓤 _) $
@@ -277,17 +272,16 @@ module _ {M : Type 1} (𝓤 : URA M) (H : Heap 𝓤) (A : Atoms 𝓤) (W : Given
         split ! $
         drop ! $
         peeks ! T.the-row (Is T.the-row) (shows 𝓤 H A T.the-row) r (w ∷ []) (λ is.
-        -- [what the tally owns; the row; what shuts; what the slice owns; _9; …; _3 at 16; …; _2 at 18; …]
-        land ! (from ! (stop !)) (store ! 18 refl (LL.lawful T.the-type T′.the-laws 𝓤 H A W .typed r _ is .0)) $
-        rewrite ! 18 (λ (v : Val). ‵ (fat fullShare T′.mir l₂ 0 v)) (ap only (LL.tells T.the-type T′.the-laws r _ is)) refl $
+        -- [what the tally owns; the row; what shuts; what the slice owns; _8; …; _3 at 14; …; _2 at 16; …]
+        land ! (from ! (stop !)) (store ! 16 refl (LL.lawful T.the-type T′.the-laws 𝓤 H A W .typed r _ is .0)) $
+        rewrite ! 16 (λ (v : Val). ‵ (fat fullShare T′.mir l₂ 0 v)) (ap only (LL.tells T.the-type T′.the-laws r _ is)) refl $
         drop ! $
         -- i += 1
-        assigns-last ! (bin ! (load ! (from ! (stop !)) (look ! 15 refl)) (lit ! tt) (record { fits = next-fits })) (from ! (stop !)) (store ! 15 refl (tt, record { fits = next-fits })) $
+        assigns-last ! (bin ! (load ! (from ! (stop !)) (look ! 13 refl)) (lit ! tt) (record { fits = next-fits })) (from ! (stop !)) (store ! 13 refl (tt, record { fits = next-fits })) $
         forget ! 3 refl $
         forget ! 5 refl $
         forget ! 7 refl $
         forget ! 9 refl $
-        forget ! 13 refl $
         again ! (Nearer cs) At u (next r d (subst (Is T.the-row r) (LL.tells T.the-type T′.the-laws r _ is) is)) nearer)))))
       where
         this : Contract
@@ -315,23 +309,21 @@ module _ {M : Type 1} (𝓤 : URA M) (H : Heap 𝓤) (A : Atoms 𝓤) (W : Given
         nearer : length cs - (u .i + 1) < length cs - u .i
         nearer = omega (arith, inside)
     turn-by u false e =
-        assigns ! (bin ! (load ! (from ! (stop !)) (look ! 15 refl)) (load ! (from ! (fld ! refl (stop !))) (look-in ! 17 (sub ! 0 refl (whole !)))) tt) (from ! (stop !)) (init ! 9 refl (tt, tt)) $
-        rewrite ! 9 (λ (y : Bool). ‵ (fat fullShare tyBool l₆ 0 (vbool y))) e refl $
+        assigns ! (bin ! (load ! (from ! (stop !)) (look ! 13 refl)) (load ! (from ! (fld ! refl (stop !))) (look-in ! 15 (sub ! 0 refl (whole !)))) tt) (from ! (stop !)) (init ! 9 refl (tt, tt)) $
+        rewrite ! 9 (λ (y : Bool). ‵ (fat fullShare tyBool l₅ 0 (vbool y))) e refl $
         leaves-loop ! (load ! (from ! (stop !)) (look ! 9 refl)) $
         exec ! C Λ En mir.t-5 (atRet En Post) $
         -- t.total
-        assigns ! (of-opd ! (load ! (from ! (fld ! refl (stop !))) (look-in ! 17 (sub ! 1 refl (whole !))))) (from ! (stop !))
-        (init ! 21 refl (LL.lawful S.the-type S′.the-laws 𝓤 H A W .typed (u .t .total) _ (total-held (u .t) (u .held)) .0)) $
+        assigns ! (of-opd ! (load ! (from ! (fld ! refl (stop !))) (look-in ! 15 (sub ! 1 refl (whole !))))) (from ! (stop !))
+        (init ! 19 refl (LL.lawful S.the-type S′.the-laws 𝓤 H A W .typed (u .t .total) _ (total-held (u .t) (u .held)) .0)) $
         shuts-slice ! tt K.the-row q′ cs b o $
-        -- [the token; what the slice owns; _9; …; _8; …; _7; …; _6; …; _5; …; _4; …; _3; …; _2; …; _1; …; _0; …]
-        returns ! (look ! 20 refl) $
+        -- [the token; what the slice owns; _8; …; _7; …; _6; …; _5; …; _4; …; _3; …; _2; …; _1; …; _0; …]
+        returns ! (look ! 18 refl) $
         forget ! 8 refl $
+        forget ! 12 refl $
         forget ! 14 refl $
         forget ! 16 refl $
         forget ! 18 refl $
-        forget ! 20 refl $
-        move ! (20 ∷ 21 ∷ []) $
-        free1 ! $
         move ! (18 ∷ 19 ∷ []) $
         free1 ! $
         move ! (16 ∷ 17 ∷ []) $
@@ -367,13 +359,13 @@ module _ {M : Type 1} (𝓤 : URA M) (H : Heap 𝓤) (A : Atoms 𝓤) (W : Given
   walk 𝓣 opens-so known =
       qed W ((‵ (flft κ q) ⊛ ‵ ftrue) ∷ ‵ (owns (ShrSlice (named 0) κ K.the-row ∷ []) x at) ∷ []) ∵
       enter ! (𝓣 .C) (𝓣 .Λ) code.function (sliceVal (b, o) (length cs) ∷ []) _ $
-      alloc1 ! (λ l₀. alloc1 ! (λ l₁. alloc1 ! (λ l₂. alloc1 ! (λ l₃. alloc1 ! (λ l₄. alloc1 ! (λ l₅. alloc1 ! (λ l₆. alloc1 ! (λ l₇. alloc1 ! (λ l₈. alloc1 ! (λ l₉. alloc0 ! $
+      alloc1 ! (λ l₀. alloc1 ! (λ l₁. alloc1 ! (λ l₂. alloc1 ! (λ l₃. alloc1 ! (λ l₄. alloc1 ! (λ l₅. alloc1 ! (λ l₆. alloc1 ! (λ l₇. alloc1 ! (λ l₈. alloc0 ! $
       params1 ! $
-      pass1 ! (init ! 16 refl (tt, (tt, (record { fits = gn .0 }, tt)))) $
+      pass1 ! (init ! 14 refl (tt, (tt, (record { fits = gn .0 }, tt)))) $
       pass0 ! $
-      -- [_9; …; _8; …; _7; …; _6; …; _5; …; _4; …; _3; …; _2; …; _1; …; _0; …; the token; what the slice owns]
+      -- [_8; …; _7; …; _6; …; _5; …; _4; …; _3; …; _2; …; _1; …; _0; …; the token; what the slice owns]
       -- t = opening(records.len())
-      assigns ! (of-opd ! (load ! (from ! (fld ! refl (stop !))) (look-in ! 16 (sub ! 1 refl (whole !))))) (from ! (stop !)) (init ! 8 refl (tt, record { fits = gn .0 })) $
+      assigns ! (of-opd ! (load ! (from ! (fld ! refl (stop !))) (look-in ! 14 (sub ! 1 refl (whole !))))) (from ! (stop !)) (init ! 8 refl (tt, record { fits = gn .0 })) $
       use0 W (raw (Opening 𝓤 H A at-mem run .pre to-opening)) goes-opening $
       calls-at ! (fmOf 𝓤 H (W .laws) 𝓣) (Opening 𝓤 H A at-mem run) opens-so to-opening (and-then ! (load ! (from ! (stop !)) (look ! 9 refl)) (no-more !)) (λ w.
       use1 W
@@ -388,29 +380,29 @@ module _ {M : Type 1} (𝓤 : URA M) (H : Heap 𝓤) (A : Atoms 𝓤) (W : Given
       split ! $
       drop ! $
       peeks ! T.the-row (Is T.the-row) (shows 𝓤 H A T.the-row) t (w ∷ []) (λ is.
-      land ! (from ! (stop !)) (init ! 15 refl (LL.lawful T.the-type T′.the-laws 𝓤 H A W .typed t _ is .0)) $
-      rewrite ! 15 (λ (v : Val). ‵ (fat fullShare T′.mir l₂ 0 v)) (ap only (LL.tells T.the-type T′.the-laws t _ is)) refl $
+      land ! (from ! (stop !)) (init ! 13 refl (LL.lawful T.the-type T′.the-laws 𝓤 H A W .typed t _ is .0)) $
+      rewrite ! 13 (λ (v : Val). ‵ (fat fullShare T′.mir l₂ 0 v)) (ap only (LL.tells T.the-type T′.the-laws t _ is)) refl $
       drop ! $
       -- i = 0
-      assigns ! (of-opd ! (lit ! tt)) (from ! (stop !)) (init ! 12 refl (tt, record { fits = lit< tt })) $
+      assigns ! (of-opd ! (lit ! tt)) (from ! (stop !)) (init ! 10 refl (tt, record { fits = lit< tt })) $
       forget ! 8 refl $
-      move ! (21 ∷ []) $
+      move ! (19 ∷ []) $
       fsplit ! $
       fsplit ! $
       move ! (1 ∷ []) $
       fsplit ! $
-      move ! (24 ∷ []) $
+      move ! (22 ∷ []) $
       split ! $
       move ! (3 ∷ 0 ∷ []) $
       looks-slice ! tt K.the-row (Is K.the-row) (shows 𝓤 H A K.the-row) (LL.vals K.the-type K′.the-laws) (LL.tells K.the-type K′.the-laws) (LL.copy K.the-type K′.the-copy 𝓤 H A W) cs b o (λ q′.
-      -- [the row; what shuts; the fractured borrow; true; res; the slice's fact; true; _9; …]
+      -- [the row; what shuts; the fractured borrow; true; res; the slice's fact; true; _8; …]
       -- what the slice owns is put together again, for the exit
       move ! (4 ∷ 2 ∷ []) $
       fjoin ! $
       move ! (4 ∷ 0 ∷ []) $
       fjoin ! $
-      keep ! (1 ∷ 2 ∷ 0 ∷ 5 ∷ 6 ∷ 7 ∷ 8 ∷ 9 ∷ 10 ∷ 11 ∷ 12 ∷ 13 ∷ 14 ∷ 15 ∷ 16 ∷ 17 ∷ 18 ∷ 19 ∷ 20 ∷ 21 ∷ 22 ∷ 23 ∷ 24 ∷ []) $
-      looped 𝓣 known q′ l₀ l₁ l₂ l₃ l₄ l₅ l₆ l₇ l₈ l₉ (at-start t e (subst (Is T.the-row t) (LL.tells T.the-type T′.the-laws t _ is) is)))))))))))))))))
+      keep ! (1 ∷ 2 ∷ 0 ∷ 5 ∷ 6 ∷ 7 ∷ 8 ∷ 9 ∷ 10 ∷ 11 ∷ 12 ∷ 13 ∷ 14 ∷ 15 ∷ 16 ∷ 17 ∷ 18 ∷ 19 ∷ 20 ∷ 21 ∷ 22 ∷ []) $
+      looped 𝓣 known q′ l₀ l₁ l₂ l₃ l₄ l₅ l₆ l₇ l₈ (at-start t e (subst (Is T.the-row t) (LL.tells T.the-type T′.the-laws t _ is) is))))))))))))))))
 
 module _ {M : Type 1} (𝓤 : URA M) (H : Heap 𝓤) (A : Atoms 𝓤) (W : Given 𝓤 H A) (at-mem : Memory → SProp 𝓤) (run : Routine → Fun 𝓤) where
   member-total-walks : (𝓣 : Tables 𝓤 H) → Triple 𝓤 (𝓣 .C #totals·opening) (Opening 𝓤 H A at-mem run) → Triple 𝓤 (𝓣 .C #totals·add) (Add 𝓤 H A at-mem run)
