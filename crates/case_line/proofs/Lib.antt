@@ -1,3 +1,4 @@
+pub mod Range
 pub mod Reading
 pub mod Marks
 pub mod Row

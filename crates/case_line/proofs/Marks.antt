@@ -1,26 +1,23 @@
 -- Mark digits read one at a time.
 -- Assumes nothing.
-use mathlib.Core.Bool.{Bool, true, false, not}
+use mathlib.Core.Bool.{Bool, true, false, not, _||_}
 use mathlib.Core.List.{List, [], _∷_, _++_, append-nil}
 use mathlib.Core.Path.{_≡_, sym, ap, subst, _∙_}
 use Prim.Native.Nat.{ℕ, _+_, _-_, _<_, _≤_}
 use native.Mathlib.Numerals.{add-one}
 use native.Mathlib.Omega.{arith}
-use borrow.Author.Tests.{lt-ltb, le-ltb}
-use lib.Dec.{T}
+use borrow.Author.Tests.{le-ltb}
+use lib.Dec.{T, ltb}
 use lib.ListN.{length, take, drop, getD, set, length-set, drop-of-length-le}
 use lib.Seq.{drop-cons, take-suc-set, append-snoc}
 use Rattle.case_line.specs.Shape.{allDigits, marksIn}
 use Rattle.case_line.specs.Told.{MarksTold}
+use Rattle.case_line.proofs.Range.{outside}
 
 module _ (l : List ℕ) (i : ℕ) where
-  pub mark-low : i < length l → getD l i 0 < 48 → allDigits (drop i l) ≡ false
+  pub no-digit : i < length l → ltb (getD l i 0) 48 || ltb 57 (getD l i 0) ≡ true → allDigits (drop i l) ≡ false
   unfolding allDigits
-  mark-low h low = rw (drop-cons l i 0, lt-ltb (getD l i 0) 48 low)
-
-  pub mark-high : i < length l → 48 ≤ getD l i 0 → 57 < getD l i 0 → allDigits (drop i l) ≡ false
-  unfolding allDigits
-  mark-high h low high = rw (drop-cons l i 0, le-ltb (getD l i 0) 48 low, lt-ltb 57 (getD l i 0) high)
+  no-digit h e = rw (drop-cons l i 0) (outside (ltb (getD l i 0) 48) (ltb 57 (getD l i 0)) false _ e)
 
   mark-digit : i < length l → 48 ≤ getD l i 0 → getD l i 0 ≤ 57 → allDigits (drop i l) ≡ allDigits (drop (i + 1) l)
   unfolding allDigits

@@ -98,10 +98,7 @@ fn read_marks(digits: &[u8], marks: &mut [u8]) -> bool
     let mut i = 0;
     while i < digits.len() {
         let b = digits[i];
-        if b < b'0' {
-            return false;
-        }
-        if b'9' < b {
+        if (b < b'0') | (b'9' < b) {
             return false;
         }
         marks[i] = b - b'0';

@@ -1,10 +1,12 @@
 -- `case_line::read_marks` meets its contract. The invariant: what is passed is digits, and their numbers are written.
 -- Assumes nothing.
 use mathlib.Core.Path.{refl, _∙_}
-use Prim.Native.Nat.{_-_}
+use Prim.Native.Nat.{_-_, _≤_}
 use native.Mathlib.Omega.{arith}
-use lib.ListN.{length}
-use Rattle.case_line.proofs.Marks.{MarksRead, no-marks, mark-more, mark-low, mark-high, marks-end}
+use denote.Ref.{now}
+use lib.ListN.{length, getD}
+use Rattle.case_line.proofs.Range.{inside}
+use Rattle.case_line.proofs.Marks.{MarksRead, no-marks, mark-more, no-digit, marks-end}
 use borrow.Author.Needs.{needs}
 use Rattle.case_line.proofs.read_marks.Statement.{statement}
 use Rattle.case_line.proofs.read_marks.Tie as tie
@@ -25,20 +27,18 @@ same-length : tie.Need-same-length Inv-loop μ-loop
 same-length c = c .before .before .before .loop .inv .long
 
 returns : tie.Need-returns Inv-loop μ-loop
-returns c =
-    let w = c .before .before .before .loop in
-    no-marks _ _ (w .inv .digits ∙ mark-low _ _ (c .before .before .loop-test .taken) (c .if1 .taken))
+returns c = no-marks _ _ (c .before .before .before .loop .inv .digits ∙ no-digit _ _ (c .before .before .loop-test .taken) (c .if1 .taken))
 
-same-length-2 : tie.Need-same-length-2 Inv-loop μ-loop
-same-length-2 c = c .before .before .before .before .loop .inv .long
+digit : (c : tie.Else1 Inv-loop μ-loop)
+    → (48 ≤ getD (now (c .before .before .before .before .args .digits)) (c .before .before .before .loop .i) 0)
+    × (getD (now (c .before .before .before .before .args .digits)) (c .before .before .before .loop .i) 0 ≤ 57)
+digit c = inside 48 57 _ (c .if1 .left)
 
-returns-2 : tie.Need-returns-2 Inv-loop μ-loop
-returns-2 c =
-    let w = c .before .before .before .before .loop in
-    no-marks _ _ (w .inv .digits ∙ mark-high _ _ (c .before .before .before .loop-test .taken) (c .before .if1 .left) (c .if2 .taken))
+sub-marks : tie.Need-sub-marks Inv-loop μ-loop
+sub-marks c = digit c .0
 
 slice-write-marks : tie.Need-slice-write-marks Inv-loop μ-loop
-slice-write-marks c = omega (arith, c .before .before .before .before .loop .inv .long)
+slice-write-marks c = omega (arith, c .before .before .before .loop .inv .long)
 
 add-i : tie.Need-add-i Inv-loop μ-loop
 add-i c = search needs
@@ -47,15 +47,13 @@ loop-less : tie.Need-loop-less Inv-loop μ-loop
 loop-less c = search needs
 
 loop-again : tie.Need-loop-again Inv-loop μ-loop
-loop-again c =
-    let w = c .before .before .before .before .loop in
-    mark-more _ _ _ _ (w .inv) (c .before .before .before .loop-test .taken) (c .before .before .before .before .before .pre) (c .before .if1 .left) (c .if2 .left)
+loop-again c = mark-more _ _ _ _ (c .before .before .before .loop .inv) (c .before .before .loop-test .taken) (c .before .before .before .before .pre) (digit c .0) (digit c .1)
 
-same-length-3 : tie.Need-same-length-3 Inv-loop μ-loop
-same-length-3 c = c .before .loop .inv .long
+same-length-2 : tie.Need-same-length-2 Inv-loop μ-loop
+same-length-2 c = c .before .loop .inv .long
 
-returns-3 : tie.Need-returns-3 Inv-loop μ-loop
-returns-3 c = marks-end _ _ _ _ (c .before .loop .inv) (c .loop-test .left)
+returns-2 : tie.Need-returns-2 Inv-loop μ-loop
+returns-2 c = marks-end _ _ _ _ (c .before .loop .inv) (c .loop-test .left)
 
 pub read-marks-spec : {M : Type 1} → statement M
 read-marks-spec =
@@ -67,11 +65,10 @@ read-marks-spec =
     shared-slice-read-b
     same-length
     returns
-    same-length-2
-    returns-2
+    sub-marks
     slice-write-marks
     add-i
     loop-less
     loop-again
-    same-length-3
-    returns-3)
+    same-length-2
+    returns-2)

@@ -5,13 +5,14 @@ use Prim.Native.Nat.{_≤_}
 use native.Mathlib.Omega.{arith}
 use denote.Ref.{now}
 use lib.ListN.{length}
-use Rattle.case_line.proofs.Shapes.{not-in-length, lengths, no-fields, whole}
+use Rattle.case_line.proofs.Range.{inside}
+use Rattle.case_line.proofs.Shapes.{not-in-length, no-fields, whole}
 use borrow.Author.Needs.{needs}
 use Rattle.case_line.proofs.settle_line.Statement.{statement}
 use Rattle.case_line.proofs.settle_line.Tie as tie
 
 in-length : (c : tie.Else1) → (29 ≤ length (now (c .before .before .args .line))) × (length (now (c .before .before .args .line)) ≤ 285)
-in-length c = lengths (now (c .before .before .args .line)) (c .if1 .left)
+in-length c = inside 29 285 (length (now (c .before .before .args .line))) (c .if1 .left)
 
 wrong-shape-requires : tie.Need-wrong-shape-requires
 wrong-shape-requires c κs = search needs
