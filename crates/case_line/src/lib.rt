@@ -8,8 +8,8 @@ ghost use Rattle.case_line.specs.declared.Fields.the-variants.{Whole};
 ghost use Rattle.case_line.specs.Shape.{fieldsOf};
 ghost use Rattle.case_line.specs.Line.{listedAs, wrongShape, settledLine, lineOf};
 ghost use Rattle.case_line.specs.Told.{saidBy, MarksTold};
-use terms::Terms;
 use numbers::Numbers;
+use terms::Terms;
 use text::Field;
 
 // What the fields before the marks say.

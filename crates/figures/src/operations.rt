@@ -6,12 +6,12 @@ ghost use Rattle.figures.specs.Elapsed.{marksIn, marksOf};
 use crate::elapsed;
 use crate::elapsed::Elapsed;
 use crate::line;
-use terms::Terms;
 use money::PensionPence;
 use quotes::QuoteAnswer;
 use quotes::Quoted;
 use quotes::Register;
 use settlement::Settlement;
+use terms::Terms;
 
 // The number in a column; 0 past the row.
 fn at(row: &[u64], column: usize) -> u64

@@ -3,11 +3,11 @@ ghost use mathlib.Core.Path.{_≡_};
 ghost use mathlib.Core.List.{[], _∷_};
 ghost use Rattle.quotes.specs.Quote.{numbersOf as quoteNumbers};
 ghost use Rattle.host.specs.Calls.{terms, hostQuoteOf, hostSettleOf};
-use terms::Terms;
 use money::PensionPence;
 use quotes::QuoteAnswer;
 use quotes::Quoted;
 use quotes::Register;
+use terms::Terms;
 
 // How many bytes the results of Quote take.
 const QUOTE_BYTES: usize = 24;

@@ -7,6 +7,7 @@ ghost use Rattle.money.specs.Money.{pension, contribution};
 
 // Pounds of pension a year that a rate is for, and the same in pence.
 pub const STEP: u32 = 250;
+
 pub const UNIT: u64 = 25000;
 
 // The most pounds of pension a year that may be held.

@@ -2,9 +2,9 @@
 mod cases;
 
 use by_value::Outcome;
-use terms::Terms;
 use records::Contract;
 use records::Posted;
+use terms::Terms;
 
 // From age 50, with dependant's pension, at pension age 65: by monthly payments, or at term 0 by a lump sum.
 fn terms(term: u32, amount: u32) -> Terms {

@@ -2,9 +2,9 @@
 ghost use mathlib.Core.Path.{_≡_};
 ghost use Rattle.quotes.specs.Quote.{quoteOf, numbersOf};
 ghost use Rattle.quotes.specs.Cap.{capDecisionOf, GreatestUnderCap};
-use terms::Terms;
 use money::ContributionPence;
 use money::PensionPence;
+use terms::Terms;
 
 // The register of quotes: the last number that was given.
 pub struct Register {

@@ -3,8 +3,8 @@ ghost use mathlib.Core.Path.{_≡_};
 ghost use lib.ListN.{drop};
 ghost use Rattle.records.specs.Record.{allZero, checkOf};
 ghost use Rattle.records.specs.Post.{postRefusal, placeOf, postOf, postedRecord, Decided};
-use terms::Terms;
 use money::PensionPence;
+use terms::Terms;
 
 // The marks before the count are in use; the others are 0.
 pub struct Contract {

@@ -8,9 +8,9 @@ ghost use Rattle.settlement.specs.Told.{Monthly};
 ghost use Rattle.schedule.specs.Schedule.{filledOf, numbersOf, scheduleOf};
 ghost use Rattle.schedule.specs.Walk.{WalkWithin, WalkTold, heldOf, Holdable, Tables, UpperYears};
 use credit::Earned;
-use terms::Terms;
 use marks::Reading;
 use money::PensionPence;
+use terms::Terms;
 
 // The answer: a refusal or 0, and where a bad mark stands.
 pub struct Scheduled {

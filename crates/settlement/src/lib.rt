@@ -10,9 +10,9 @@ ghost use Rattle.settlement.specs.Settle.{creditAtStatus, settleOf, numb
 ghost use Rattle.settlement.specs.Examine.{refusedExamined, examinedOf};
 ghost use Rattle.settlement.specs.Demand.{Demand3};
 ghost use Rattle.settlement.specs.Told.{Monthly};
-use terms::Terms;
 use money::ContributionPence;
 use money::PensionPence;
+use terms::Terms;
 
 pub enum Settlement {
     // the refusal, and the index of a bad mark

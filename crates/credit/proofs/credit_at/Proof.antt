@@ -44,9 +44,10 @@ plus-requires c κs = omega (arith, gain-small c)
 
 returns-2 : tie.Need-returns-2
 returns-2 c =
-    let b = c .before .before in
-    (one-open _ _ _ _ _ _ (b .before .month-value .ensures .0) (b .month-value2 .ensures .0) (c .before .less .ensures) (c .plus .ensures),
-    omega (arith, gain-small (c .before), ap (λ (p : PensionPence). p .0) (c .plus .ensures)))
+    let b = c .before .before in (
+      one-open _ _ _ _ _ _ (b .before .month-value .ensures .0) (b .month-value2 .ensures .0) (c .before .less .ensures) (c .plus .ensures),
+      omega (arith, gain-small (c .before), ap (λ (p : PensionPence). p .0) (c .plus .ensures)),
+    )
 
 pub credit-at-spec : {M : Type 1} → statement M
 credit-at-spec =

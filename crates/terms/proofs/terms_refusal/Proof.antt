@@ -25,10 +25,11 @@ returns-2 c = rw (sym (c .before .before .before .wrong-option .ensures) ∙ c .
 returns-3 : tie.Need-returns-3
 unfolding refusalOf early wrongTerm
 returns-3 c =
-    rw
-    (sym (c .before .before .before .before .before .wrong-option .ensures) ∙ c .before .before .before .before .if1 .left,
-    sym (c .before .before .before .wrong-pension-age .ensures) ∙ c .before .before .if2 .left,
-    lt-ltb _ _ (c .if3 .taken))
+    rw (
+      sym (c .before .before .before .before .before .wrong-option .ensures) ∙ c .before .before .before .before .if1 .left,
+      sym (c .before .before .before .wrong-pension-age .ensures) ∙ c .before .before .if2 .left,
+      lt-ltb _ _ (c .if3 .taken),
+    )
 
 wrong-payer-requires : tie.Need-wrong-payer-requires
 wrong-payer-requires c κs = search needs
@@ -36,20 +37,22 @@ wrong-payer-requires c κs = search needs
 returns-4 : tie.Need-returns-4
 unfolding refusalOf early wrongTerm
 returns-4 c =
-    rw
-    (sym (c .before .before .before .before .before .before .before .wrong-option .ensures) ∙ c .before .before .before .before .before .before .if1 .left,
-    sym (c .before .before .before .before .before .wrong-pension-age .ensures) ∙ c .before .before .before .before .if2 .left,
-    le-ltb _ _ (c .before .before .if3 .left),
-    sym (c .before .wrong-payer .ensures) ∙ c .if4 .taken)
+    rw (
+      sym (c .before .before .before .before .before .before .before .wrong-option .ensures) ∙ c .before .before .before .before .before .before .if1 .left,
+      sym (c .before .before .before .before .before .wrong-pension-age .ensures) ∙ c .before .before .before .before .if2 .left,
+      le-ltb _ _ (c .before .before .if3 .left),
+      sym (c .before .wrong-payer .ensures) ∙ c .if4 .taken,
+    )
 
 returns-5 : tie.Need-returns-5
 unfolding refusalOf wrongTerm
 returns-5 c =
-    rw
-    (sym (c .before .before .before .before .before .before .before .wrong-option .ensures) ∙ c .before .before .before .before .before .before .if1 .left,
-    sym (c .before .before .before .before .before .wrong-pension-age .ensures) ∙ c .before .before .before .before .if2 .left,
-    le-ltb _ _ (c .before .before .if3 .left),
-    sym (c .before .wrong-payer .ensures) ∙ c .if4 .left)
+    rw (
+      sym (c .before .before .before .before .before .before .before .wrong-option .ensures) ∙ c .before .before .before .before .before .before .if1 .left,
+      sym (c .before .before .before .before .before .wrong-pension-age .ensures) ∙ c .before .before .before .before .if2 .left,
+      le-ltb _ _ (c .before .before .if3 .left),
+      sym (c .before .wrong-payer .ensures) ∙ c .if4 .left,
+    )
     (sym (late (noLowerRate _) (noUpperRate _) (wrongAmount _) (aboveCap _ 0)))
 
 pub terms-refusal-spec : {M : Type 1} → statement M

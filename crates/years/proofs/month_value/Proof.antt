@@ -42,13 +42,14 @@ returns : tie.Need-returns
 returns c =
     let a = c .before .before .before .args in
     let year = c .before .before .year-at in
-    let next = c .before .year-at2 in
-    (c .blend .ensures ∙ ap pension (by-years (a .years) (a .month) _ _ (year .ensures) (next .ensures)),
-    omega (
-      arith,
-      blend-most (a .month % 12) (year .result) (next .result) (2 ^ 32 - 1) (omega arith) (omega arith) (omega arith),
-      ap (λ (p : PensionPence). p .0) (c .blend .ensures),
-    ))
+    let next = c .before .year-at2 in (
+      c .blend .ensures ∙ ap pension (by-years (a .years) (a .month) _ _ (year .ensures) (next .ensures)),
+      omega (
+        arith,
+        blend-most (a .month % 12) (year .result) (next .result) (2 ^ 32 - 1) (omega arith) (omega arith) (omega arith),
+        ap (λ (p : PensionPence). p .0) (c .blend .ensures),
+      ),
+    )
 
 pub month-value-spec : {M : Type 1} → statement M
 month-value-spec =
