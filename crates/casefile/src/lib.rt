@@ -10,7 +10,8 @@ ghost use Rattle.casefile.specs.Told.{Kept, PartTold};
 use bytes::scan::find;
 use case_line::settle_line;
 
-// The bytes since the last line end, the first len of the array. 286 stand for any more.
+// The bytes since the last line end, the first len of the array. 286 stand for any more. What stands behind them is left over,
+// so no caller sees the fields.
 pub struct OpenLine {
     bytes: [u8; 286],
     len: usize,
