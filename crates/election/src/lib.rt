@@ -7,7 +7,7 @@ ghost use Rattle.rounding.specs.Nearest.{combine};
 ghost use Rattle.money.specs.Money.{contribution};
 ghost use Rattle.money.specs.Limits.{capPounds};
 ghost use Rattle.terms.specs.Rate.{ratesAt, upperRatesAt, foundIn};
-ghost use Rattle.terms.specs.Rules.{aboveCap, refusalOf};
+ghost use Rattle.terms.specs.Rules.{wrongAmount, aboveCap, refusalOf};
 ghost use Rattle.election.specs.Price.{contributionAt, refused, pricedOf};
 ghost use Rattle.election.specs.Told.{Found};
 use money::ContributionPence;
@@ -20,6 +20,15 @@ pub struct Priced {
     pub contribution: ContributionPence,
     pub lower: [u32; 20],
     pub upper: [u32; 20],
+}
+
+fn wrong_amount(t: Terms) -> bool
+    ensures { λ r. ⌜ r ≡ wrongAmount t ⌝ }
+{
+    if t.amount < money::STEP {
+        return true;
+    }
+    t.amount % money::STEP != 0
 }
 
 // Whether the upper table is needed and has no rate.
@@ -54,7 +63,7 @@ fn price_refusal(t: Terms, lower: u32, upper: u32, existing: PensionPence) -> u3
     if no_upper_rate(t, upper) {
         return 6;
     }
-    if terms::wrong_amount(t) {
+    if wrong_amount(t) {
         return 7;
     }
     if above_cap(t, existing) {
@@ -70,7 +79,12 @@ fn rates_at(t: Terms, pension_age: u32) -> [u32; 20]
     if t.term == 0 {
         return [0u32; 20];
     }
-    monthly::monthly_row(t.option, pension_age, t.age)
+    let option = t.option;
+    match option {
+        1 => personal::monthly_row(pension_age, t.age),
+        2 => dependant::monthly_row(pension_age, t.age),
+        _ => [0u32; 20],
+    }
 }
 
 // The same of the upper table, which only odd months need.

@@ -1,6 +1,7 @@
 mod Walk
 pub mod Entries
 pub mod Tables
+pub mod Rows
 mod Monthly
 mod LumpSum
 pub mod Laws

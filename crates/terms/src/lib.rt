@@ -1,6 +1,6 @@
 // The terms of an election, and the rules that refuse them before a rate is looked up.
 ghost use mathlib.Core.Path.{_≡_};
-ghost use Rattle.terms.specs.Rules.{wrongOption, wrongPensionAge, wrongPayer, wrongAmount, refusalOf, early};
+ghost use Rattle.terms.specs.Rules.{wrongOption, wrongPensionAge, wrongPayer, refusalOf, early};
 
 // Age in whole years, pension age in years and months, 1 personal or 2 with dependant's pension, 1 member or 2 employer,
 // years of monthly payments or 0 for a lump sum, pounds of pension a year. Any numbers: price refuses bad ones.
@@ -48,15 +48,6 @@ fn wrong_payer(t: Terms) -> bool
         return 0 < t.term;
     }
     true
-}
-
-pub fn wrong_amount(t: Terms) -> bool
-    ensures { λ r. ⌜ r ≡ wrongAmount t ⌝ }
-{
-    if t.amount < money::STEP {
-        return true;
-    }
-    t.amount % money::STEP != 0
 }
 
 // The rules that need no rate, 1 to 4: the first that refuses, else 0.

@@ -1,0 +1,20 @@
+// A line of twenty rates out of a part of a monthly table.
+ghost use mathlib.Core.Path.{_≡_};
+ghost use Rattle.lines.specs.Parts.{lineIn};
+
+// One of the seventeen lines of a part of a table; zeros past the last.
+pub fn line_of(part: [u32; 340], line: u32) -> [u32; 20]
+    ensures { λ r. ⌜ r ≡ lineIn part line ⌝ }
+{
+    if 16 < line {
+        return [0u32; 20];
+    }
+    let mut row = [0u32; 20];
+    let start = (line * 20) as usize;
+    let mut k: usize = 0;
+    while k < 20 {
+        row[k] = part[start + k];
+        k += 1;
+    }
+    row
+}

@@ -1,0 +1,30 @@
+-- `personal::at_67` meets its contract: each of the three constants is its part of the table's list, number by number.
+-- Assumes nothing.
+use mathlib.Core.Path.{_∙_}
+use native.Mathlib.Omega.{arith}
+use borrow.Author.Needs.{needs}
+use Rattle.rates.specs.Personal.{p67}
+use Rattle.lines.proofs.Parts.{line-in-part}
+use Rattle.personal.proofs.at_67.Statement.{statement}
+use Rattle.personal.proofs.at_67.Tie as tie
+
+line-of-requires : tie.Need-line-of-requires
+line-of-requires c κs = search needs
+
+returns : tie.Need-returns
+returns c = c .line-of .ensures ∙ line-in-part 0 _ _ p67 (omega arith) (omega arith)
+
+line-of-requires-2 : tie.Need-line-of-requires-2
+line-of-requires-2 c κs = search needs
+
+returns-2 : tie.Need-returns-2
+returns-2 c = c .line-of2 .ensures ∙ line-in-part 1 _ _ p67 (omega arith) (omega arith)
+
+line-of-requires-3 : tie.Need-line-of-requires-3
+line-of-requires-3 c κs = search needs
+
+returns-3 : tie.Need-returns-3
+returns-3 c = c .line-of3 .ensures ∙ line-in-part 2 _ _ p67 (omega arith) (omega arith)
+
+pub at-67-spec : {M : Type 1} → statement M
+at-67-spec = tie.close (tie.spec line-of-requires returns line-of-requires-2 returns-2 line-of-requires-3 returns-3)
