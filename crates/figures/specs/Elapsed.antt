@@ -8,8 +8,8 @@ use Rattle.common.specs.Choice.{pick}
 use Rattle.figures.specs.declared.elapsed.Elapsed.{Elapsed}
 
 -- the marks put together so far
-abbrev pub marksIn : Elapsed → List ℕ
-marksIn e = take (e .count) (e .marks)
+abbrev pub elapsedMarks : Elapsed → List ℕ
+elapsedMarks e = take (e .count) (e .marks)
 
 -- the marks and a run of one more, as far as 256 go; a number that is no byte adds nothing
 unfoldable pub withRun : List ℕ → ℕ → ℕ → List ℕ
@@ -20,5 +20,5 @@ abbrev pub withRunAt : List ℕ → ℕ → List ℕ → List ℕ
 withRunAt row column before = withRun before (getD row column 0) (getD row (column + 1) 0)
 
 -- the marks of a row: the four runs of columns 7 to 14
-abbrev pub marksOf : List ℕ → List ℕ
-marksOf row = withRunAt row 13 (withRunAt row 11 (withRunAt row 9 (withRunAt row 7 [])))
+abbrev pub rowMarks : List ℕ → List ℕ
+rowMarks row = withRunAt row 13 (withRunAt row 11 (withRunAt row 9 (withRunAt row 7 [])))

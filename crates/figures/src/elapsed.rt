@@ -2,7 +2,7 @@
 ghost use mathlib.Core.Path.{_≡_};
 ghost use mathlib.Core.List.{[]};
 ghost use lib.ListN.{take};
-ghost use Rattle.figures.specs.Elapsed.{marksIn, withRun};
+ghost use Rattle.figures.specs.Elapsed.{elapsedMarks, withRun};
 
 // The first `count` marks are the elapsed months'.
 pub struct Elapsed {
@@ -11,7 +11,7 @@ pub struct Elapsed {
 }
 
 pub fn none() -> Elapsed
-    ensures { λ r. ⌜ marksIn r ≡ [] ⌝ }
+    ensures { λ r. ⌜ elapsedMarks r ≡ [] ⌝ }
 {
     Elapsed {
         marks: [0u8; 256],
@@ -21,7 +21,7 @@ pub fn none() -> Elapsed
 
 // One run more, as far as there is room. What is no byte is no mark, and adds nothing.
 pub fn then(before: Elapsed, n: u64, months: u64) -> Elapsed
-    ensures { λ r. ⌜ marksIn r ≡ withRun (marksIn before) n months ⌝ }
+    ensures { λ r. ⌜ elapsedMarks r ≡ withRun (elapsedMarks before) n months ⌝ }
 {
     if n > 255 {
         return before;

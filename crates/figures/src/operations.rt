@@ -2,7 +2,7 @@
 ghost use mathlib.Core.Path.{_≡_};
 ghost use Prim.Native.Nat.{_<_, _≤_};
 ghost use lib.ListN.{getD};
-ghost use Rattle.figures.specs.Elapsed.{marksIn, marksOf};
+ghost use Rattle.figures.specs.Elapsed.{elapsedMarks, rowMarks};
 use crate::elapsed;
 use crate::elapsed::Elapsed;
 use crate::line;
@@ -47,7 +47,7 @@ fn terms(row: &[u64]) -> Terms {
 
 // Columns 7 to 14: four runs of marks.
 fn marks(row: &[u64]) -> Elapsed
-    ensures { λ r. ⌜ marksIn r ≡ marksOf (now (row .entry)) ⌝ }
+    ensures { λ r. ⌜ elapsedMarks r ≡ rowMarks (now (row .entry)) ⌝ }
 {
     let first = elapsed::then(elapsed::none(), at(row, 7), at(row, 8));
     let second = elapsed::then(first, at(row, 9), at(row, 10));

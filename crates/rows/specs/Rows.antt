@@ -50,11 +50,11 @@ priceRows =
     ∷ []
 
 -- months paid and months missed
-abbrev pub paid : ℕ → List ℕ
-paid n = replicate n 1
+abbrev pub paidFor : ℕ → List ℕ
+paidFor n = replicate n 1
 
-abbrev pub missed : ℕ → List ℕ
-missed n = replicate n 0
+abbrev pub missedFor : ℕ → List ℕ
+missedFor n = replicate n 0
 
 -- the numbers of a settlement: refusal, place, contribution, status, credit, refund
 abbrev pub settled : Terms → List ℕ → List ℕ
@@ -74,20 +74,20 @@ valueAt t month = monthValue nearest (yearCredits nearest (purchaseIn t (t .year
 unfoldable pub creditRows : List Row
 creditRows =
     (firstYears 2 nineYears is (0 ∷ 17198 ∷ []))
-    ∷ (settled nineYears (paid 5) is (0 ∷ 0 ∷ 17150 ∷ 1 ∷ 7166 ∷ 0 ∷ []))
+    ∷ (settled nineYears (paidFor 5) is (0 ∷ 0 ∷ 17150 ∷ 1 ∷ 7166 ∷ 0 ∷ []))
     ∷ (firstYears 6 fiveYears is (0 ∷ 22259 ∷ 43338 ∷ 63285 ∷ 82201 ∷ 100000 ∷ []))
-    ∷ (settled fiveYears (paid 18) is (0 ∷ 0 ∷ 24200 ∷ 1 ∷ 32799 ∷ 0 ∷ []))
+    ∷ (settled fiveYears (paidFor 18) is (0 ∷ 0 ∷ 24200 ∷ 1 ∷ 32799 ∷ 0 ∷ []))
     ∷ ((valueAt fiveYears 18 ∷ valueAt fiveYears 28 ∷ valueAt fiveYears 22 ∷ []) is (32799 ∷ 49987 ∷ 39825 ∷ []))
-    ∷ (settled fiveYears (paid 18 ++ (missed 4 ++ paid 6)) is (0 ∷ 0 ∷ 24200 ∷ 1 ∷ 42961 ∷ 0 ∷ []))
+    ∷ (settled fiveYears (paidFor 18 ++ (missedFor 4 ++ paidFor 6)) is (0 ∷ 0 ∷ 24200 ∷ 1 ∷ 42961 ∷ 0 ∷ []))
     ∷ []
 
 -- notice after eleven and after twelve paid months, resuming after eleven and after twelve missed ones, and first marks 0 and 2
 unfoldable pub statusRows : List Row
 statusRows =
-    (settled fiveYears (paid 11 ++ (2 ∷ [])) is (0 ∷ 0 ∷ 24200 ∷ 5 ∷ 0 ∷ 266200 ∷ []))
-    ∷ (settled fiveYears (paid 12 ++ (2 ∷ [])) is (0 ∷ 0 ∷ 24200 ∷ 4 ∷ 22259 ∷ 0 ∷ []))
-    ∷ (only (settleOf fiveYears (paid 1 ++ (missed 11 ++ paid 1)) .refusal) is only 0)
-    ∷ (settled fiveYears (paid 1 ++ (missed 12 ++ paid 1)) is (12 ∷ 13 ∷ 0 ∷ 0 ∷ 0 ∷ 0 ∷ []))
+    (settled fiveYears (paidFor 11 ++ (2 ∷ [])) is (0 ∷ 0 ∷ 24200 ∷ 5 ∷ 0 ∷ 266200 ∷ []))
+    ∷ (settled fiveYears (paidFor 12 ++ (2 ∷ [])) is (0 ∷ 0 ∷ 24200 ∷ 4 ∷ 22259 ∷ 0 ∷ []))
+    ∷ (only (settleOf fiveYears (paidFor 1 ++ (missedFor 11 ++ paidFor 1)) .refusal) is only 0)
+    ∷ (settled fiveYears (paidFor 1 ++ (missedFor 12 ++ paidFor 1)) is (12 ∷ 13 ∷ 0 ∷ 0 ∷ 0 ∷ 0 ∷ []))
     ∷ (settled fiveYears (0 ∷ []) is (12 ∷ 0 ∷ 0 ∷ 0 ∷ 0 ∷ 0 ∷ []))
     ∷ (settled fiveYears (2 ∷ []) is (0 ∷ 0 ∷ 24200 ∷ 5 ∷ 0 ∷ 0 ∷ []))
     ∷ []
@@ -96,8 +96,8 @@ statusRows =
 -- the blended contribution by each table's rate would give other figures
 unfoldable pub tellingRows : List Row
 tellingRows =
-    (settled fiveYears (paid 1 ++ (missed 1 ++ paid 5)) is (0 ∷ 0 ∷ 24200 ∷ 1 ∷ 11129 ∷ 0 ∷ []))
-    ∷ (settled oddMonths (paid 30) is (0 ∷ 0 ∷ 25573 ∷ 1 ∷ 54042 ∷ 0 ∷ []))
+    (settled fiveYears (paidFor 1 ++ (missedFor 1 ++ paidFor 5)) is (0 ∷ 0 ∷ 24200 ∷ 1 ∷ 11129 ∷ 0 ∷ []))
+    ∷ (settled oddMonths (paidFor 30) is (0 ∷ 0 ∷ 25573 ∷ 1 ∷ 54042 ∷ 0 ∷ []))
     ∷ []
 
 -- all of them
