@@ -1,4 +1,4 @@
--- The three parts in which the code holds a monthly table, each of seventeen ages.
+-- The six parts in which the code holds a monthly table, each of nine ages.
 -- Assumes nothing.
 use mathlib.Core.List.{List}
 use Prim.Native.Nat.{ℕ, _+_, _*_, _-_}
@@ -7,7 +7,7 @@ use Rattle.common.specs.Table.{tabulate}
 
 -- part k of a table, counted from 0
 abbrev pub partOf : ℕ → List ℕ → List ℕ
-partOf k table = take 340 (drop (340 * k) table)
+partOf k table = take 180 (drop (180 * k) table)
 
 -- the entries of a line of a part, for the terms 1 to 20
 unfoldable pub lineIn : List ℕ → ℕ → List ℕ

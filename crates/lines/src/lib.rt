@@ -2,11 +2,11 @@
 ghost use mathlib.Core.Path.{_≡_};
 ghost use Rattle.lines.specs.Parts.{lineIn};
 
-// One of the seventeen lines of a part of a table; zeros past the last.
-pub fn line_of(part: [u32; 340], line: u32) -> [u32; 20]
+// One of the nine lines of a part of a table; zeros past the last.
+pub fn line_of(part: [u32; 180], line: u32) -> [u32; 20]
     ensures { λ r. ⌜ r ≡ lineIn part line ⌝ }
 {
-    if 16 < line {
+    if 8 < line {
         return [0u32; 20];
     }
     let mut row = [0u32; 20];

@@ -24,7 +24,7 @@ abbrev μ-loop : tie.MeasureT-loop
 μ-loop line part row₀ start k₀ row k = 20 - k
 
 -- past the last line there is nothing
-none : (part : List ℕ) (line : ℕ) → length part ≡ 340 → 16 < line → replicate 20 0 ≡ lineIn part line
+none : (part : List ℕ) (line : ℕ) → length part ≡ 180 → 8 < line → replicate 20 0 ≡ lineIn part line
 unfolding lineIn
 none part line full past =
     is-tabulate (replicate 20 0) (entry part line) 1 20 refl
@@ -33,7 +33,7 @@ none part line full past =
 returns : tie.Need-returns Inv-loop μ-loop
 returns c =
     let a = c .before .args in
-    none (a .t1) (a .line) (good-length (eInt w32) 340 (a .t1) _ (c .before .good .0)) (c .if1 .taken)
+    none (a .t1) (a .line) (good-length (eInt w32) 180 (a .t1) _ (c .before .good .0)) (c .if1 .taken)
 
 mul-start : tie.Need-mul-start Inv-loop μ-loop
 mul-start c = search needs
