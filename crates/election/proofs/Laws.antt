@@ -9,6 +9,7 @@ use native.Mathlib.Omega.{arith}
 use lib.Dec.{T, ltb, leb, eqb}
 use borrow.Author.Tests.{ltb-false, eqb-true, eqb-false, eq-eqb, ne-eqb, not-false}
 use Rattle.common.specs.Choice.{pick}
+use Rattle.common.proofs.Choice.{chosen-number}
 use Rattle.common.proofs.Tests.{or-false}
 use Rattle.rounding.proofs.Laws.{combine-most}
 use Rattle.terms.specs.declared.Terms.{Terms}
@@ -36,11 +37,12 @@ module _ (t : Terms) (existing : ℕ) where
   priced-accepted h = rw (eq-eqb _ _ h)
 
   pub priced-refusal : pricedOf t existing .refusal ≡ refusalOf t existing
-  priced-refusal = go (ℕ-discrete (refusalOf t existing) 0)
-    where
-      go : Dec (refusalOf t existing ≡ 0) → pricedOf t existing .refusal ≡ refusalOf t existing
-      go (yes z) = rw (priced-accepted z) (sym z)
-      go (no h) = rw (priced-refused h)
+  unfolding pricedOf
+  priced-refusal = chosen-number (λ (p : Priced). p .refusal) (refusalOf t existing) (accepted t) (refused (refusalOf t existing)) refl refl
+
+  -- the same of an answer that is the defined one
+  pub priced-told : {p : Priced} → p ≡ pricedOf t existing → p .refusal ≡ refusalOf t existing
+  priced-told e = ap (λ (p : Priced). p .refusal) e ∙ priced-refusal
 
   pub priced-contribution : refusalOf t existing ≡ 0 → pricedOf t existing .contribution .0 ≡ contributionOf t
   priced-contribution h = rw (priced-accepted h)

@@ -14,7 +14,8 @@ use Rattle.terms.specs.declared.Terms.{Terms}
 use Rattle.marks.proofs.Term.{marks-counts, lawful-for-take}
 use Rattle.marks.specs.declared.Reading.{Reading}
 use Rattle.settlement.specs.Settle.{settleOf}
-use Rattle.settlement.proofs.Laws.{terms-pass, refused-by-marks, lawful, settle-refusal}
+use Rattle.examination.proofs.Laws.{terms-pass, refused-by-marks, lawful}
+use Rattle.settlement.proofs.Laws.{settle-refusal}
 use Rattle.records.specs.declared.Contract.{Contract}
 use Rattle.records.specs.Record.{usedMarks, allZero, badRecord}
 use Rattle.records.specs.Post.{postRefusal, postOf, written, postedRecord}

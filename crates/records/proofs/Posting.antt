@@ -15,7 +15,8 @@ use Rattle.marks.specs.declared.Reading.{Reading}
 use Rattle.marks.proofs.Lists.{length-last}
 use Rattle.marks.proofs.Term.{too-many, marks-last}
 use Rattle.settlement.specs.Settle.{settleOf}
-use Rattle.settlement.proofs.Laws.{terms-pass, refused-by-marks, few, settle-refusal}
+use Rattle.examination.proofs.Laws.{terms-pass, refused-by-marks, few}
+use Rattle.settlement.proofs.Laws.{settle-refusal}
 use Rattle.records.specs.declared.Contract.{Contract}
 use Rattle.records.specs.declared.Posted.{Posted}
 use Rattle.records.specs.Record.{usedMarks, badRecord}

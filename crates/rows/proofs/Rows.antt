@@ -15,7 +15,8 @@ use Rattle.years.specs.Years.{yearCredit, yearCredits, monthValue}
 use Rattle.credit.specs.Runs.{runsFrom, runFrom, runsIn}
 use Rattle.credit.specs.Credit.{earned, creditOver, creditIn}
 use Rattle.settlement.specs.Credit.{creditOf}
-use Rattle.settlement.specs.Settle.{settleRefusal, settlePlace, creditAtStatus, refundAtStatus, settleOf}
+use Rattle.examination.specs.Examine.{settleRefusal, settlePlace}
+use Rattle.settlement.specs.Settle.{creditAtStatus, refundAtStatus, settleOf}
 use Rattle.rows.specs.Rows.{Row, priceRows, creditRows, statusRows, tellingRows, rows}
 
 pub all-rows : map (λ (r : Row). r .found) rows ≡ map (λ (r : Row). r .stated) rows

@@ -24,8 +24,10 @@ use Rattle.credit.specs.Earned.{nothingYet, creditAt, afterMarks}
 use Rattle.credit.proofs.Bounds.{credit-most}
 use Rattle.credit.proofs.Runs.{one-mark-more, by-runs}
 use Rattle.settlement.specs.Credit.{purchaseIn, creditOf}
-use Rattle.settlement.specs.Settle.{SettleNumbers, settleRefusal, creditAtStatus}
-use Rattle.settlement.proofs.Laws.{lawful, few, refusal-take, settle-settled}
+use Rattle.examination.specs.Examine.{settleRefusal}
+use Rattle.examination.proofs.Laws.{lawful, few, refusal-take}
+use Rattle.settlement.specs.Settle.{SettleNumbers, creditAtStatus}
+use Rattle.settlement.proofs.Laws.{settle-settled}
 use Rattle.settlement.proofs.Purchases.{credit-combined}
 use Rattle.schedule.specs.declared.Walk.{Walk}
 use Rattle.schedule.specs.Schedule.{entryOf}

@@ -7,7 +7,8 @@ use lib.ListN.{length, take, drop}
 use Rattle.common.specs.Choice.{pick}
 use Rattle.common.specs.Table.{tabulate}
 use Rattle.terms.specs.declared.Terms.{Terms}
-use Rattle.settlement.specs.Settle.{settleRefusal, settlePlace, settleOf}
+use Rattle.examination.specs.Examine.{settleRefusal, settlePlace}
+use Rattle.settlement.specs.Settle.{settleOf}
 use Rattle.schedule.specs.declared.Scheduled.{Scheduled}
 
 -- an entry is Settle's credit for the marks up to and with its own

@@ -15,7 +15,7 @@ use Rattle.money.specs.Limits.{unit, capPence}
 use Rattle.years.specs.Years.{yearCredits}
 use Rattle.credit.specs.Earned.{nothingYet, creditAt, afterMark, afterMarks, EarnedWithin}
 use Rattle.settlement.specs.Credit.{purchaseIn}
-use Rattle.settlement.specs.Settle.{settleRefusal}
+use Rattle.examination.specs.Examine.{settleRefusal}
 use Rattle.schedule.specs.declared.Walk.{Walk}
 
 -- after all of some marks

@@ -4,7 +4,7 @@ ghost use Prim.Native.Nat.{ℕ, _≤_, _<_, _^_};
 ghost use lib.ListN.{length, getD};
 ghost use Rattle.money.specs.Limits.{capPence};
 ghost use Rattle.money.specs.Money.{pension};
-ghost use Rattle.settlement.specs.Told.{Monthly};
+ghost use Rattle.examination.specs.Examine.{Monthly};
 ghost use Rattle.schedule.specs.Schedule.{filledOf, numbersOf, scheduleOf};
 ghost use Rattle.schedule.specs.Walk.{WalkWithin, WalkTold, heldOf, Holdable, Tables, UpperYears};
 use credit::Earned;
@@ -96,7 +96,7 @@ fn upper_years(t: Terms, lower: [u32; 20], upper: [u32; 20], only: [u32; 21]) ->
 pub fn schedule(t: Terms, marks: &[u8], out: &mut [u32]) -> Scheduled
     ensures { λ r. ⌜ numbersOf r (now (out .exit)) ≡ scheduleOf t (now (marks .entry)) (now (out .entry)) ⌝ }
 {
-    let e = settlement::examine(t, marks);
+    let e = examination::examine(t, marks);
     if e.refusal != 0 {
         return Scheduled {
             refusal: e.refusal,

@@ -22,10 +22,12 @@ use Rattle.marks.specs.Reading.{readingOf, marksOf}
 use Rattle.status.proofs.StatusOf.{not-lump, status-most, refunded-early}
 use Rattle.marks.proofs.Term.{too-many, not-too-many, marks-counts, marks-within}
 use Rattle.marks.proofs.Refusals.{lawful-reading, unrefused-lawful, refused-first}
+use Rattle.examination.specs.Examine.{settleRefusal, settlePlace}
+use Rattle.examination.proofs.Laws.{refused-by-terms, place-by-terms, refused-by-marks, place-by-marks, accepted, lawful}
 use Rattle.settlement.specs.Credit.{creditOf}
-use Rattle.settlement.specs.Settle.{settleRefusal, settlePlace, creditAtStatus, refundAtStatus, settleOf}
+use Rattle.settlement.specs.Settle.{creditAtStatus, refundAtStatus, settleOf}
 use Rattle.settlement.specs.Told.{SettleBounds}
-use Rattle.settlement.proofs.Laws.{refused-by-terms, place-by-terms, refused-by-marks, place-by-marks, accepted, lawful, settle-refused, settle-settled}
+use Rattle.settlement.proofs.Laws.{settle-refused, settle-settled}
 use Rattle.settlement.proofs.Demand.{worked-most}
 
 module _ (t : Terms) (ms : List ℕ) where

@@ -19,10 +19,12 @@ use Rattle.status.proofs.StatusOf.{monthly-status}
 use Rattle.credit.specs.Runs.{paid, startsAfter, runCount}
 use Rattle.distance.proofs.Distance.{distance}
 use Rattle.distance.proofs.Amount.{credit-most, full-term}
+use Rattle.examination.specs.Examine.{settleRefusal}
+use Rattle.examination.proofs.Laws.{accepted, lawful}
 use Rattle.settlement.specs.Credit.{purchasesOf, creditOf, exactCreditOf}
-use Rattle.settlement.specs.Settle.{settleRefusal, creditAtStatus, settleOf}
+use Rattle.settlement.specs.Settle.{creditAtStatus, settleOf}
 use Rattle.settlement.specs.Demand.{Demand3}
-use Rattle.settlement.proofs.Laws.{settle-settled, settle-refusal, accepted, lawful}
+use Rattle.settlement.proofs.Laws.{settle-settled, settle-refusal}
 use Rattle.settlement.proofs.Purchases.{sound}
 
 -- marks that are all 2 hold no run

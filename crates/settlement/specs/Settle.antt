@@ -5,11 +5,10 @@ use Prim.Native.Nat.{ℕ, _*_}
 use lib.Dec.{eqb}
 use Rattle.common.specs.Choice.{pick}
 use Rattle.terms.specs.declared.Terms.{Terms}
-use Rattle.terms.specs.Rules.{refusalOf}
 use Rattle.election.specs.Price.{contributionOf}
 use Rattle.marks.specs.Counts.{paidMonths}
 use Rattle.status.specs.Status.{statusOf}
-use Rattle.marks.specs.Reading.{marksOf}
+use Rattle.examination.specs.Examine.{settleRefusal, settlePlace}
 use Rattle.settlement.specs.declared.Settlement.{Settlement}
 use Rattle.settlement.specs.declared.Settlement.the-variants.{Refused, Settled}
 use Rattle.settlement.specs.Credit.{creditOf}
@@ -22,14 +21,6 @@ pub record SettleNumbers : Type 0 where
   pub status : ℕ
   pub credit : ℕ
   pub refund : ℕ
-
--- the refusal of the terms, with no pension held yet; where they pass, that of the marks
-unfoldable pub settleRefusal : Terms → List ℕ → ℕ
-settleRefusal t marks = pick (eqb (refusalOf t 0) 0) (marksOf (t .term) marks .refusal) (refusalOf t 0)
-
--- the index of a bad mark, 0 for any other refusal
-unfoldable pub settlePlace : Terms → List ℕ → ℕ
-settlePlace t marks = pick (eqb (refusalOf t 0) 0) (marksOf (t .term) marks .place) 0
 
 -- nothing when refunded; a lump sum is credited in full; else what the paid runs earned
 unfoldable pub creditAtStatus : Terms → List ℕ → ℕ → ℕ

@@ -7,9 +7,8 @@ ghost use Rattle.common.specs.Choice.{pick};
 ghost use Rattle.money.specs.Money.{pension, contribution};
 ghost use Rattle.settlement.specs.Credit.{creditOf};
 ghost use Rattle.settlement.specs.Settle.{creditAtStatus, settleOf, numbersOf};
-ghost use Rattle.settlement.specs.Examine.{refusedExamined, examinedOf};
 ghost use Rattle.settlement.specs.Demand.{Demand3};
-ghost use Rattle.settlement.specs.Told.{Monthly};
+ghost use Rattle.examination.specs.Examine.{Monthly};
 use money::ContributionPence;
 use money::PensionPence;
 use terms::Terms;
@@ -26,58 +25,6 @@ pub enum Settlement {
         credit: PensionPence,
         refund: ContributionPence,
     },
-}
-
-// Terms and marks with their first refusal and its place; or, where that is 0, what the settlement goes by.
-pub struct Examined {
-    pub refusal: u32,
-    pub place: usize,
-    pub contribution: ContributionPence,
-    pub status: u32,
-    pub paid: usize,
-    pub lower: [u32; 20],
-    pub upper: [u32; 20],
-}
-
-fn refuse(refusal: u32, place: usize) -> Examined
-    ensures { λ r. ⌜ r ≡ refusedExamined refusal place ⌝ }
-{
-    Examined {
-        refusal,
-        place,
-        contribution: ContributionPence::none(),
-        status: 0,
-        paid: 0,
-        lower: [0u32; 20],
-        upper: [0u32; 20],
-    }
-}
-
-// The terms are looked at first, as a quote with nothing existing; then the marks.
-pub fn examine(t: Terms, marks: &[u8]) -> Examined
-    ensures { λ r. ⌜ r ≡ examinedOf t (now (marks .entry)) ⌝ }
-{
-    let priced = election::price(t, PensionPence::none());
-    if priced.refusal != 0 {
-        return refuse(priced.refusal, 0);
-    }
-    let read = marks::read_marks(marks, t.term);
-    if read.refusal != 0 {
-        return refuse(read.refusal, read.place);
-    }
-    let contribution = priced.contribution;
-    let lower = priced.lower;
-    let upper = priced.upper;
-    let status = status::status(t.term, read);
-    Examined {
-        refusal: 0,
-        place: 0,
-        contribution,
-        status,
-        paid: read.paid,
-        lower,
-        upper,
-    }
 }
 
 // What the paid runs of a monthly contract earned: each table's credit whole, then combined.
@@ -132,7 +79,7 @@ pub fn settle(t: Terms, marks: &[u8]) -> Settlement
     ensures is { λ r. ⌜ numbersOf r ≡ settleOf t (now (marks .entry)) ⌝ }
     ensures distance { λ r. ⌜ (Demand3 t (now (marks .entry)) (numbersOf r)) ⌝ }
 {
-    let e = examine(t, marks);
+    let e = examination::examine(t, marks);
     if e.refusal != 0 {
         return Settlement::Refused {
             refusal: e.refusal,

@@ -6,9 +6,9 @@ use Prim.Native.Nat.{ℕ, _+_, _-_, _*_, _≤_, _<_}
 use native.Mathlib.Omega.{arith}
 use mir.Syntax.{w32}
 use borrow.Kind.Array.{eInt, good-length}
-use lib.ListN.{length, getD, length-set, replicate, getD-replicate, List·getD-eq-default}
+use lib.ListN.{length, getD, length-set, replicate, List·getD-eq-default}
 use borrow.Author.Needs.{needs}
-use Rattle.common.proofs.Table.{is-tabulate, one-more}
+use Rattle.common.proofs.Table.{is-tabulate, zeros-tabulate, one-more}
 use Rattle.lines.specs.Parts.{lineIn}
 use Rattle.lines.proofs.line_of.Statement.{statement}
 use Rattle.lines.proofs.line_of.Tie as tie
@@ -27,8 +27,7 @@ abbrev μ-loop : tie.MeasureT-loop
 none : (part : List ℕ) (line : ℕ) → length part ≡ 180 → 8 < line → replicate 20 0 ≡ lineIn part line
 unfolding lineIn
 none part line full past =
-    is-tabulate (replicate 20 0) (entry part line) 1 20 refl
-    (λ n h. getD-replicate 20 n 0 0 h ∙ sym (List·getD-eq-default part 0 {n = line * 20 + (1 + n - 1)} (omega arith)))
+    zeros-tabulate (entry part line) 1 20 (λ n h. List·getD-eq-default part 0 {n = line * 20 + (1 + n - 1)} (omega arith))
 
 returns : tie.Need-returns Inv-loop μ-loop
 returns c =

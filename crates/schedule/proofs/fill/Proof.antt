@@ -21,7 +21,7 @@ use Rattle.schedule.specs.Schedule.{entryOf, filledOf}
 use Rattle.schedule.specs.Walk.{walkOf, WalkWithin, WalkTold, heldOf, Holdable, Tables}
 use Rattle.schedule.specs.declared.Walk.{Walk}
 use Rattle.settlement.proofs.Bounds.{settle-bounds}
-use Rattle.settlement.proofs.Laws.{few}
+use Rattle.examination.proofs.Laws.{few}
 use Rattle.settlement.specs.Settle.{settleOf}
 use Rattle.schedule.proofs.fill.Statement.{statement}
 use Rattle.schedule.proofs.fill.Tie as tie

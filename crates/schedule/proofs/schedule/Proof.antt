@@ -12,12 +12,10 @@ use Rattle.terms.specs.declared.Terms.{Terms}
 use Rattle.schedule.specs.Schedule.{ScheduleNumbers, filledOf, scheduleOf}
 use Rattle.schedule.specs.Walk.{Tables}
 use Rattle.settlement.proofs.Purchases.{lower-priced, years-of}
-use Rattle.settlement.proofs.Examination.{examined-told, examined-none, examined-monthly}
-use Rattle.settlement.proofs.Laws.{lawful, accepted, examined-refused}
-use Rattle.settlement.specs.Examine.{examinedOf}
-use Rattle.settlement.specs.Settle.{settleRefusal, settlePlace}
-use Rattle.settlement.specs.Told.{Monthly}
-use Rattle.settlement.specs.declared.Examined.{Examined}
+use Rattle.examination.proofs.Examination.{examined-told, examined-none, examined-monthly}
+use Rattle.examination.proofs.Laws.{lawful, accepted, examined-refused}
+use Rattle.examination.specs.Examine.{settleRefusal, settlePlace, examinedOf, Monthly}
+use Rattle.examination.specs.declared.Examined.{Examined}
 use Rattle.schedule.proofs.schedule.Statement.{statement}
 use Rattle.schedule.proofs.schedule.Tie as tie
 

@@ -22,7 +22,6 @@ use Rattle.rounding.proofs.Laws.{combine-none}
 use Rattle.rounding.specs.Nearest.{nearest, combine}
 use Rattle.settlement.proofs.Purchases.{lower-priced, upper-priced, years-of, credit-combined}
 use Rattle.settlement.specs.Credit.{purchaseIn, creditOf}
-use Rattle.settlement.specs.Told.{Monthly}
 use Rattle.settlement.proofs.earned.Statement.{statement}
 use Rattle.settlement.proofs.earned.Tie as tie
 

@@ -16,12 +16,13 @@ use Rattle.money.specs.Money.{pension, contribution}
 use Rattle.money.specs.declared.ContributionPence.{ContributionPence}
 use Rattle.money.specs.declared.PensionPence.{PensionPence}
 use Rattle.settlement.proofs.Demand.{demand-3}
-use Rattle.settlement.proofs.Laws.{accepted, few, settle-refused, settle-settled, examined-refused, examined-accepted}
-use Rattle.settlement.proofs.Examination.{examined-told, examined-none, examined-status, examined-monthly}
+use Rattle.settlement.proofs.Laws.{settle-refused, settle-settled}
+use Rattle.examination.proofs.Laws.{accepted, few, examined-refused, examined-accepted}
+use Rattle.examination.proofs.Examination.{examined-told, examined-none, examined-status, examined-monthly}
 use Rattle.settlement.specs.Demand.{Demand3}
-use Rattle.settlement.specs.Examine.{examinedOf}
-use Rattle.settlement.specs.Settle.{SettleNumbers, settleRefusal, creditAtStatus, refundAtStatus, refusedNumbers, settleOf}
-use Rattle.settlement.specs.declared.Examined.{Examined}
+use Rattle.examination.specs.Examine.{settleRefusal, examinedOf}
+use Rattle.settlement.specs.Settle.{SettleNumbers, creditAtStatus, refundAtStatus, refusedNumbers, settleOf}
+use Rattle.examination.specs.declared.Examined.{Examined}
 use Rattle.settlement.proofs.settle.Statement.{statement}
 use Rattle.settlement.proofs.settle.Tie as tie
 

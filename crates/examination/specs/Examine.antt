@@ -1,17 +1,29 @@
 -- What a settlement goes by: the first refusal and its place, or what terms and marks say together.
 -- Assumes nothing.
 use mathlib.Core.List.{List}
-use Prim.Native.Nat.{ℕ, _+_}
+use mathlib.Core.Path.{_≡_}
+use Prim.Native.Nat.{ℕ, _+_, _<_}
 use lib.Dec.{eqb}
 use Rattle.common.specs.Choice.{pick}
 use Rattle.money.specs.Money.{contribution}
+use Rattle.rates.specs.Rates.{rowOf}
 use Rattle.terms.specs.declared.Terms.{Terms}
+use Rattle.terms.specs.Rules.{refusalOf}
 use Rattle.terms.specs.Rate.{noRates, ratesAt, upperRatesAt}
 use Rattle.election.specs.Price.{contributionOf}
+use Rattle.election.specs.Told.{Accepted}
 use Rattle.marks.specs.Counts.{paidMonths}
+use Rattle.marks.specs.Reading.{marksOf}
 use Rattle.status.specs.Status.{statusOf}
-use Rattle.settlement.specs.declared.Examined.{Examined}
-use Rattle.settlement.specs.Settle.{settleRefusal, settlePlace}
+use Rattle.examination.specs.declared.Examined.{Examined}
+
+-- the refusal of the terms, with no pension held yet; where they pass, that of the marks
+unfoldable pub settleRefusal : Terms → List ℕ → ℕ
+settleRefusal t marks = pick (eqb (refusalOf t 0) 0) (marksOf (t .term) marks .refusal) (refusalOf t 0)
+
+-- the index of a bad mark, 0 for any other refusal
+unfoldable pub settlePlace : Terms → List ℕ → ℕ
+settlePlace t marks = pick (eqb (refusalOf t 0) 0) (marksOf (t .term) marks .place) 0
 
 -- a refusal, all other fields 0
 abbrev pub refusedExamined : ℕ → ℕ → Examined
@@ -43,3 +55,10 @@ unfoldable pub examinedOf : Terms → List ℕ → Examined
 examinedOf t marks =
     pick (eqb (settleRefusal t marks) 0) (acceptedExamined t marks)
     (refusedExamined (settleRefusal t marks) (settlePlace t marks))
+
+-- accepted terms of a monthly contract, with the rows of the needed tables
+pub record Monthly (t : Terms) (lower upper : List ℕ) : Type 0 where
+  pub accepted : Accepted t 0
+  pub some-years : 0 < t .term
+  pub lower-is : lower ≡ rowOf (t .option) (t .years) (t .age)
+  pub upper-is : (t .months ≡ 0 → ⊥) → upper ≡ rowOf (t .option) (t .years + 1) (t .age)

@@ -1,8 +1,8 @@
--- `settlement::refuse` meets its contract: the number and its place, and nothing else.
+-- `examination::refuse` meets its contract: the number and its place, and nothing else.
 -- Assumes nothing.
 use borrow.Author.Needs.{needs}
-use Rattle.settlement.proofs.refuse.Statement.{statement}
-use Rattle.settlement.proofs.refuse.Tie as tie
+use Rattle.examination.proofs.refuse.Statement.{statement}
+use Rattle.examination.proofs.refuse.Tie as tie
 
 none-requires : tie.Need-none-requires
 none-requires c κs = search needs

@@ -6,11 +6,9 @@ use Prim.Native.Nat.{ℕ, _+_, _<_}
 use Rattle.terms.specs.declared.Terms.{Terms}
 use Rattle.election.proofs.Rates.{monthly-rates, monthly-upper-rates}
 use Rattle.status.specs.Status.{statusOf}
-use Rattle.settlement.specs.declared.Examined.{Examined}
-use Rattle.settlement.specs.Settle.{settleRefusal}
-use Rattle.settlement.specs.Examine.{examinedOf}
-use Rattle.settlement.specs.Told.{Monthly}
-use Rattle.settlement.proofs.Laws.{accepted, examined-accepted, examined-refusal}
+use Rattle.examination.specs.declared.Examined.{Examined}
+use Rattle.examination.specs.Examine.{settleRefusal, examinedOf, Monthly}
+use Rattle.examination.proofs.Laws.{accepted, examined-accepted, examined-refusal}
 
 module _ (t : Terms) (ms : List ℕ) {e : Examined} (is : e ≡ examinedOf t ms) where
   pub examined-told : e .refusal ≡ settleRefusal t ms

@@ -1,4 +1,4 @@
--- `settlement::examine` meets its contract: the terms' refusal, then the marks', then what both say.
+-- `examination::examine` meets its contract: the terms' refusal, then the marks', then what both say.
 -- Assumes nothing.
 use mathlib.Core.List.{List}
 use mathlib.Core.Path.{_≡_, refl, sym, ap, subst, _∙_}
@@ -19,12 +19,11 @@ use Rattle.marks.specs.declared.Reading.{Reading}
 use Rattle.money.specs.Money.{pension, contribution}
 use Rattle.money.specs.declared.ContributionPence.{ContributionPence}
 use Rattle.money.specs.declared.PensionPence.{PensionPence}
-use Rattle.settlement.proofs.Laws.{refused-by-terms, place-by-terms, refused-by-marks, place-by-marks, examined-refused, examined-accepted}
-use Rattle.settlement.specs.Examine.{refusedExamined, examinedOf}
-use Rattle.settlement.specs.Settle.{settleRefusal}
-use Rattle.settlement.specs.declared.Examined.{Examined}
-use Rattle.settlement.proofs.examine.Statement.{statement}
-use Rattle.settlement.proofs.examine.Tie as tie
+use Rattle.examination.proofs.Laws.{refused-by-terms, place-by-terms, refused-by-marks, place-by-marks, examined-refused, examined-accepted}
+use Rattle.examination.specs.Examine.{settleRefusal, refusedExamined, examinedOf}
+use Rattle.examination.specs.declared.Examined.{Examined}
+use Rattle.examination.proofs.examine.Statement.{statement}
+use Rattle.examination.proofs.examine.Tie as tie
 
 told-price : (t : Terms) {p : Priced} {nothing : PensionPence} → p ≡ pricedOf t (nothing .0) → nothing ≡ pension 0 → p ≡ pricedOf t 0
 told-price t e z = e ∙ ap (λ (n : PensionPence). pricedOf t (n .0)) z

@@ -1,0 +1,58 @@
+// Whether terms and marks are refused, and by which rule first; or what a settlement of them goes by.
+ghost use mathlib.Core.Path.{_≡_};
+ghost use Rattle.examination.specs.Examine.{refusedExamined, examinedOf};
+use money::ContributionPence;
+use money::PensionPence;
+use terms::Terms;
+
+// Terms and marks with their first refusal and its place; or, where that is 0, what the settlement goes by.
+pub struct Examined {
+    pub refusal: u32,
+    pub place: usize,
+    pub contribution: ContributionPence,
+    pub status: u32,
+    pub paid: usize,
+    pub lower: [u32; 20],
+    pub upper: [u32; 20],
+}
+
+fn refuse(refusal: u32, place: usize) -> Examined
+    ensures { λ r. ⌜ r ≡ refusedExamined refusal place ⌝ }
+{
+    Examined {
+        refusal,
+        place,
+        contribution: ContributionPence::none(),
+        status: 0,
+        paid: 0,
+        lower: [0u32; 20],
+        upper: [0u32; 20],
+    }
+}
+
+// The terms are looked at first, as a quote with nothing existing; then the marks.
+pub fn examine(t: Terms, marks: &[u8]) -> Examined
+    ensures { λ r. ⌜ r ≡ examinedOf t (now (marks .entry)) ⌝ }
+{
+    let priced = election::price(t, PensionPence::none());
+    if priced.refusal != 0 {
+        return refuse(priced.refusal, 0);
+    }
+    let read = marks::read_marks(marks, t.term);
+    if read.refusal != 0 {
+        return refuse(read.refusal, read.place);
+    }
+    let contribution = priced.contribution;
+    let lower = priced.lower;
+    let upper = priced.upper;
+    let status = status::status(t.term, read);
+    Examined {
+        refusal: 0,
+        place: 0,
+        contribution,
+        status,
+        paid: read.paid,
+        lower,
+        upper,
+    }
+}
