@@ -1,9 +1,9 @@
--- Marks read one at a time give the credit over the unbroken runs, for any rounding and any list of marks, and so for the first of them.
+-- Marks read one at a time give the credit over the unbroken runs, for any rounding and any list of marks, and so for any first part of it.
 -- Assumes nothing.
 use mathlib.Core.Bool.{Bool, true, false}
 use mathlib.Core.List.{List, [], _∷_, _++_}
 use mathlib.Core.Path.{_≡_, refl, _∙_}
-use Prim.Native.Nat.{ℕ, suc, _+_, _-_, _<_}
+use Prim.Native.Nat.{ℕ, suc, _+_, _<_}
 use native.Mathlib.Numerals.{add-one}
 use native.Mathlib.Omega.{arith}
 use lib.Dec.{eqb}

@@ -27,6 +27,7 @@ pub fn start() -> Reading
     refused(0, 0)
 }
 
+// A refusal with its place, and zeros; number 0 is the state before any mark.
 fn refused(refusal: u32, place: usize) -> Reading
     ensures { λ out. ⌜ out ≡ refusedOf refusal place ⌝ }
 {
@@ -55,23 +56,23 @@ fn one_more(n: usize) -> usize
 fn next_refusal(r: Reading, mark: u8) -> u32
     ensures { λ out. ⌜ out ≡ nextRefusalOf r mark ⌝ }
 {
-    if mark > 2 {
-        return 11;
-    }
-    if mark == 2 {
-        return 0;
-    }
-    if r.last == 2 {
-        return 12;
-    }
-    if mark == 1 {
-        if r.gap >= 12 {
+    if mark < 2 {
+        if r.last == 2 {
+            return 12;
+        }
+        if mark == 1 {
+            if r.gap >= 12 {
+                return 12;
+            }
+            return 0;
+        }
+        if r.count == 0 {
             return 12;
         }
         return 0;
     }
-    if r.count == 0 {
-        return 12;
+    if mark > 2 {
+        return 11;
     }
     0
 }
@@ -142,6 +143,9 @@ pub fn read_marks(marks: &[u8], term: u32) -> Reading
     let mut i = 0;
     while i < marks.len() {
         r = step(r, marks[i]);
+        if r.refusal > 0 {
+            return r;
+        }
         i += 1;
     }
     r

@@ -1,5 +1,6 @@
 -- The laws of the rates, for callers: the print rules both ways, the greatest rates, and how the monthly rates go with term and age.
 -- Assumes nothing.
+use mathlib.Core.List.{List}
 use mathlib.Core.Path.{_≡_, refl, ap, _∙_}
 use mathlib.Core.Bool.{Bool, true, false}
 use Prim.Native.Nat.{ℕ, zero, suc, _+_, _-_, _%_, _≤_, _<_, zero-le}
@@ -8,7 +9,7 @@ use native.Mathlib.Decide.{le-ind}
 use native.Mathlib.Omega.{arith}
 use lib.ListN.{length, getD, replicate, getD-replicate}
 use lib.Dec.{ltb}
-use borrow.Author.Tests.{ltb-true, ltb-false}
+use borrow.Author.Tests.{le-ltb, ltb-true, ltb-false}
 use Rattle.common.specs.Choice.{pick}
 use Rattle.common.proofs.Table.{length-tabulate, getD-tabulate}
 use Rattle.rates.specs.Rates.{rateOf, rowOf, rateIn, lumpRateOf, Printed, LumpPrinted}
@@ -103,3 +104,8 @@ lump-most o age = by-positive (λ x. x ≤ 456000) _ zero-le (λ h. lump.rules o
 
 pub lump-tens : (o age : ℕ) → lumpRateOf o age % 1000 ≡ 0
 lump-tens o age = by-positive (λ x. x % 1000 ≡ 0) _ refl (λ h. lump.rules o age (lump-printed o age h) .tens)
+
+-- the rate for a term of 1 to 20 stands at the place before
+pub rate-in-at : (row : List ℕ) (term : ℕ) → 0 < term → term ≤ 20 → rateIn row term ≡ getD row (term - 1) 0
+unfolding rateIn
+rate-in-at row term low high = rw (le-ltb term 1 low, le-ltb 20 term high)

@@ -68,7 +68,7 @@ module _ (round : ℕ → ℕ → ℕ) (half : WithinHalf round) where
   pub years-most : (p : Purchase) → p .term ≤ 20 → Falling p → (n : ℕ) → getD (yearCredits round p) n 0 ≤ p .units * unit
   years-most p short falling n = rw (row-year round p short n) (year-most p falling n)
 
-  -- the value at a month is not above all the years
+  -- a bound of all the years bounds the value at a month
   pub month-most : (years : List ℕ) (u : ℕ) → ((n : ℕ) → getD years n 0 ≤ u) → (month : ℕ) → monthValue round years month ≤ u
   unfolding monthValue
   month-most years u most month =

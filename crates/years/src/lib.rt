@@ -28,19 +28,18 @@ pub fn year_credits(rates: [u32; 20], units: u32, term: u32) -> [u32; 21]
     let mut years = [0u32; 21];
     let mut n: u32 = 1;
     while n <= term {
-        let rate = rates::rate_in(rates, n);
         let at = n as usize;
-        years[at] = year_credit(own, rate);
+        years[at] = year_credit(own, rates[at - 1]);
         n += 1;
     }
     years
 }
 
-// The credit of a whole year; past the row there is none.
-fn year_at(years: [u32; 21], n: u32) -> u32
-    ensures { λ r. ⌜ r ≡ getD years n 0 ⌝ }
+// The credit of a whole year; past the row there is none. The row is lent: one by value would be copied.
+fn year_at(years: &[u32], n: u32) -> u32
+    ensures { λ r. ⌜ r ≡ getD (now (years .entry)) n 0 ⌝ }
 {
-    if n < 21 {
+    if (n as usize) < years.len() {
         return years[n as usize];
     }
     0
@@ -52,7 +51,7 @@ pub fn month_value(years: [u32; 21], month: u32) -> PensionPence
     ensures fits { λ r. ⌜ r .0 < 2 ^ 32 ⌝ }
 {
     let n = month / 12;
-    let year = PensionPence(year_at(years, n) as u64);
-    let next = PensionPence(year_at(years, n + 1) as u64);
+    let year = PensionPence(year_at(&years, n) as u64);
+    let next = PensionPence(year_at(&years, n + 1) as u64);
     year.blend(next, month % 12)
 }

@@ -1,8 +1,8 @@
--- `marks::read_marks` meets its contract. The loop's invariant: `r` is the reading of the marks before `i`.
+-- `marks::read_marks` meets its contract. The loop's invariant: `r` is the reading of the marks before `i`. A refused reading stays so.
 -- Assumes nothing.
 use borrow.Author.Needs.{needs}
-use mathlib.Core.Path.{_≡_, _∙_}
-use Prim.Native.Nat.{_≤_, _*_, _-_}
+use mathlib.Core.Path.{_≡_, sym, _∙_}
+use Prim.Native.Nat.{_≤_, _+_, _*_, _-_}
 use native.Mathlib.Omega.{arith}
 use denote.Ref.{now}
 use borrow.Author.Tests.{le-ltb}
@@ -10,7 +10,7 @@ use lib.ListN.{length, take}
 use lib.Seq.{take-all}
 use Rattle.common.proofs.Tests.{tests}
 use Rattle.marks.specs.Reading.{readOn, readingOf, marksOf}
-use Rattle.marks.proofs.Steps.{step-take}
+use Rattle.marks.proofs.Steps.{step-take, refused-early}
 use Rattle.marks.proofs.read_marks.Statement.{statement}
 use Rattle.marks.proofs.read_marks.Tie as tie
 
@@ -44,6 +44,23 @@ shared-slice-read-step c = search needs
 step-requires : tie.Need-step-requires Inv-loop μ-loop
 step-requires c κs = search needs
 
+-- after a turn the reading is that of one mark more
+next : (c : tie.After-step Inv-loop μ-loop)
+    → let ms = now (c .before .before .before .before .before .before .before .args .marks) in
+    c .step .result ≡ readingOf (take (c .before .before .before .loop .i + 1) ms)
+next c =
+    let w = c .before .before .before .loop in
+    let ms = now (c .before .before .before .before .before .before .before .args .marks) in
+    c .step .ensures ∙ rw (w .inv .2) (step-take ms (w .i) (omega arith) (omega arith))
+
+returns-2 : tie.Need-returns-2 Inv-loop μ-loop
+unfolding marksOf
+returns-2 c =
+    let w = c .before .before .before .before .before .loop in
+    let ms = now (c .before .before .before .before .before .before .before .before .before .args .marks) in
+    let is = next (c .before .before) in
+    rw (le-ltb _ _ (w .inv .1)) (is ∙ sym (refused-early ms (w .i + 1) (rw is at (c .if2 .taken))))
+
 add-i : tie.Need-add-i Inv-loop μ-loop
 add-i c = search needs
 
@@ -51,17 +68,11 @@ loop-less : tie.Need-loop-less Inv-loop μ-loop
 loop-less c = search needs
 
 loop-again : tie.Need-loop-again Inv-loop μ-loop
-loop-again c =
-    let w = c .before .before .before .loop in
-    let ms = now (c .before .before .before .before .before .before .before .args .marks) in (
-      search needs,
-      search needs,
-      c .step .ensures ∙ rw (w .inv .2) (step-take ms (w .i) (omega arith) (omega arith)),
-    )
+loop-again c = (search needs, search needs, next (c .before .before))
 
-returns-2 : tie.Need-returns-2 Inv-loop μ-loop
+returns-3 : tie.Need-returns-3 Inv-loop μ-loop
 unfolding marksOf
-returns-2 c =
+returns-3 c =
     let w = c .before .loop in
     let ms = now (c .before .before .before .before .before .args .marks) in
     rw (le-ltb _ _ (w .inv .1)) (w .inv .2 ∙ rw (take-all (w .i) ms (c .loop-test .left)))
@@ -79,7 +90,8 @@ read-marks-spec =
     loop-holds
     shared-slice-read-step
     step-requires
+    returns-2
     add-i
     loop-less
     loop-again
-    returns-2)
+    returns-3)

@@ -20,11 +20,17 @@ by-years : (years : List ℕ) (month year next : ℕ) → year ≡ getD years (m
 unfolding blend monthValue
 by-years years month year next p q = rw (p, q, add-one)
 
+slice-aggregate-year-at : tie.Need-slice-aggregate-year-at
+slice-aggregate-year-at c = search needs
+
 year-at-requires : tie.Need-year-at-requires
 year-at-requires c κs = search needs
 
-cast-t7 : tie.Need-cast-t7
-cast-t7 c = search needs
+cast-t10 : tie.Need-cast-t10
+cast-t10 c = search needs
+
+slice-aggregate-year-at-2 : tie.Need-slice-aggregate-year-at-2
+slice-aggregate-year-at-2 c = search needs
 
 add-year-at : tie.Need-add-year-at
 add-year-at c = search needs
@@ -32,18 +38,18 @@ add-year-at c = search needs
 year-at-requires-2 : tie.Need-year-at-requires-2
 year-at-requires-2 c κs = search needs
 
-cast-t7-2 : tie.Need-cast-t7-2
-cast-t7-2 c = search needs
+cast-t10-2 : tie.Need-cast-t10-2
+cast-t10-2 c = search needs
 
 blend-requires : tie.Need-blend-requires
 blend-requires c κs = search needs
 
 returns : tie.Need-returns
 returns c =
-    let a = c .before .before .before .args in
-    let year = c .before .before .year-at in
+    let a = c .before .before .before .before .before .args in
+    let year = c .before .before .before .year-at in
     let next = c .before .year-at2 in (
-      c .blend .ensures ∙ ap pension (by-years (a .years) (a .month) _ _ (year .ensures) (next .ensures)),
+      c .blend .ensures ∙ ap pension (by-years (a .t1) (a .month) _ _ (year .ensures) (next .ensures)),
       omega (
         arith,
         blend-most (a .month % 12) (year .result) (next .result) (2 ^ 32 - 1) (omega arith) (omega arith) (omega arith),
@@ -55,10 +61,12 @@ pub month-value-spec : {M : Type 1} → statement M
 month-value-spec =
     tie.close
     (tie.spec
+    slice-aggregate-year-at
     year-at-requires
-    cast-t7
+    cast-t10
+    slice-aggregate-year-at-2
     add-year-at
     year-at-requires-2
-    cast-t7-2
+    cast-t10-2
     blend-requires
     returns)

@@ -1,4 +1,4 @@
--- `years::year_credit` meets its contract: the rounded quotient is below 2 ^ 32, as the quotient is.
+-- `years::year_credit` meets its contract: the rounded quotient is at most 2 ^ 32 - 1, as the quotient is.
 -- Assumes nothing.
 use Prim.Native.Nat.{_*_, _-_, _^_}
 use native.Mathlib.Omega.{arith}

@@ -17,6 +17,7 @@ use Rattle.rounding.proofs.HalfUp.{nearest-within-half}
 use Rattle.money.specs.declared.ContributionPence.{ContributionPence}
 use Rattle.money.specs.Money.{contribution}
 use Rattle.rates.specs.Rates.{rateIn}
+use Rattle.rates.proofs.Laws.{rate-in-at}
 use Rattle.money.specs.Limits.{unit}
 use Rattle.years.specs.Years.{Purchase, yearCredit, yearCredits}
 use Rattle.years.specs.SoundRates.{purchase, SoundRates}
@@ -36,12 +37,12 @@ record Turn (rates : List ℕ) (units term n : ℕ) (own : ContributionPence) (r
 
 module _ (rates : List ℕ) (units term n : ℕ) (own : ContributionPence) (rate : ℕ) (t : Turn rates units term n own rate) where
   year-fits : SoundRates (purchase rates units term) → (0 < rate) × (own .0 * unit ≤ (2 ^ 32 - 1) * rate)
-  year-fits priced = rw (t .paid, t .rated) (
-    priced .falling .positive n (t .low) (t .within),
+  year-fits sound = rw (t .paid, t .rated) (
+    sound .falling .positive n (t .low) (t .within),
     omega (
       arith,
-      own-most (purchase rates units term) (priced .falling) n (t .low) (t .within),
-      mul-le-mul-right {m = units * unit} {n = 2 ^ 32 - 1} (rateIn rates n) (omega (arith, priced .amount-fits)),
+      own-most (purchase rates units term) (sound .falling) n (t .low) (t .within),
+      mul-le-mul-right {m = units * unit} {n = 2 ^ 32 - 1} (rateIn rates n) (omega (arith, sound .amount-fits)),
     ),
   )
 
@@ -58,22 +59,22 @@ filled p years n past len below above =
     (λ h. above k (ltb-false k n h) l ∙ sym (year-past nearest p (0 + k) (omega (arith, ltb-false k n h))))
 
 abbrev Inv-loop : tie.InvT-loop
-Inv-loop rates units term own years₀ n₀ years n =
+Inv-loop units term rates own years₀ n₀ years n =
     (0 < n) × (n ≤ term + 1) × (length years ≡ 21)
     × ((k : ℕ) → k < n → getD years k 0 ≡ yearCredit nearest (purchase rates units term) k)
     × ((k : ℕ) → n ≤ k → k < 21 → getD years k 0 ≡ 0)
 
 abbrev μ-loop : tie.MeasureT-loop
-μ-loop rates units term own years₀ n₀ years n = term + 1 - n
+μ-loop units term rates own years₀ n₀ years n = term + 1 - n
 
-turn : (c : tie.After-rate-in2 Inv-loop μ-loop)
-    → let a = c .before .before .before .before .before .args in
-    Turn (a .rates) (a .units) (a .term) (c .before .before .loop .n) (c .before .before .before .of-units .result) (c .rate-in2 .result)
+turn : (c : tie.In-loop Inv-loop μ-loop)
+    → let a = c .before .before .before .before .args in
+    Turn (a .t1) (a .units) (a .term) (c .before .loop .n) (c .before .before .of-units .result) (getD (a .t1) (c .before .loop .n - 1) 0)
 turn c =
     record {
-      paid = rw (← c .before .before .before .before .rate-in .ensures) (c .before .before .before .of-units .ensures);
-      rated = c .rate-in2 .ensures;
-      low = c .before .before .loop .inv .0;
+      paid = rw (← c .before .before .before .rate-in .ensures) (c .before .before .of-units .ensures);
+      rated = sym (rate-in-at _ _ (c .before .loop .inv .0) (omega (arith, c .before .before .before .before .pre .term-most)));
+      low = c .before .loop .inv .0;
       within = omega arith;
     }
 
@@ -89,18 +90,24 @@ loop-holds c =
       search needs,
       search needs,
       search needs,
-      λ k h. rw (first k h) (sym (year-none nearest (purchase (a .rates) (a .units) (a .term)))),
+      λ k h. rw (first k h) (sym (year-none nearest (purchase (a .t1) (a .units) (a .term)))),
       λ k h l. getD-replicate 21 k 0 0 l,
     )
-
-rate-in-requires-2 : tie.Need-rate-in-requires-2 Inv-loop μ-loop
-rate-in-requires-2 c κs = search needs
 
 cast-at : tie.Need-cast-at Inv-loop μ-loop
 cast-at c = search needs
 
+sub-year-credit : tie.Need-sub-year-credit Inv-loop μ-loop
+sub-year-credit c = search needs
+
+mul-year-credit : tie.Need-mul-year-credit Inv-loop μ-loop
+mul-year-credit c = search needs
+
+array-read-year-credit : tie.Need-array-read-year-credit Inv-loop μ-loop
+array-read-year-credit c = omega (arith, c .before .before .before .before .pre .term-most)
+
 year-credit-requires : tie.Need-year-credit-requires Inv-loop μ-loop
-year-credit-requires c κs = year-fits _ _ _ _ _ _ (turn c) (c .before .before .before .before .before .pre)
+year-credit-requires c κs = year-fits _ _ _ _ _ _ (turn c) (c .before .before .before .before .pre)
 
 mul-years : tie.Need-mul-years Inv-loop μ-loop
 mul-years c = search needs
@@ -116,7 +123,7 @@ loop-less c = search needs
 
 loop-again : tie.Need-loop-again Inv-loop μ-loop
 loop-again c =
-    let w = c .before .before .before .loop in (
+    let w = c .before .before .loop in (
       search needs,
       search needs,
       simp length-set (w .inv .2),
@@ -128,10 +135,10 @@ returns : tie.Need-returns Inv-loop μ-loop
 returns c =
     let w = c .before .loop in
     let a = c .before .before .before .before .args in
-    let p = purchase (a .rates) (a .units) (a .term) in
+    let p = purchase (a .t1) (a .units) (a .term) in
     let is = filled p (w .years) (w .n) (omega arith) (w .inv .2) (w .inv .3) (w .inv .4) in
-    let priced = c .before .before .before .before .pre in
-    (is, λ n. rw is (years-most nearest nearest-within-half p (priced .term-most) (priced .falling) n))
+    let sound = c .before .before .before .before .pre in
+    (is, λ n. rw is (years-most nearest nearest-within-half p (sound .term-most) (sound .falling) n))
 
 pub year-credits-spec : {M : Type 1} → statement M
 year-credits-spec =
@@ -142,8 +149,10 @@ year-credits-spec =
     rate-in-requires
     of-units-requires
     loop-holds
-    rate-in-requires-2
     cast-at
+    sub-year-credit
+    mul-year-credit
+    array-read-year-credit
     year-credit-requires
     mul-years
     array-write-years
