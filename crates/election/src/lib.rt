@@ -41,7 +41,8 @@ fn no_upper_rate(t: Terms, upper: u32) -> bool
     upper == 0
 }
 
-// No sum of any existing pension and any amount is made, since it could wrap.
+// Whether the existing pension and the amount together are above the cap. No sum of any existing pension and any amount is made,
+// since it could wrap.
 fn above_cap(t: Terms, existing: PensionPence) -> bool
     ensures { λ r. ⌜ r ≡ aboveCap t (existing .0) ⌝ }
 {
