@@ -29,7 +29,9 @@ is-above-requires c κs = search needs
 
 returns : tie.Need-returns
 unfolding aboveCap
-returns c = over (c .before .before .before .args .existing .0) _ (rw (c .before .before .of-pounds .ensures) at (sym (c .before .is-above .ensures) ∙ c .if1 .taken))
+returns c =
+    over (c .before .before .before .args .existing .0) _
+    (rw (c .before .before .of-pounds .ensures) at (sym (c .before .is-above .ensures) ∙ c .if1 .taken))
 
 of-pounds-requires-2 : tie.Need-of-pounds-requires-2
 of-pounds-requires-2 c κs = search needs
@@ -42,11 +44,12 @@ is-above-requires-2 c κs = search needs
 
 returns-2 : tie.Need-returns-2
 unfolding aboveCap
-returns-2 c = let e = c .before .before .before .before .before .before .args .existing .0 in
-    let low : ltb capPence e ≡ false =
-    rw (c .before .before .before .before .before .of-pounds .ensures) at (sym (c .before .before .before .before .is-above .ensures) ∙ c .before .before .before .if1 .left) in
-    c .is-above2 .ensures
-    ∙ rw (c .before .less .ensures, c .before .before .of-pounds2 .ensures, c .before .before .before .before .before .of-pounds .ensures) (under e _ low)
+returns-2 c =
+    let b = c .before .before .before in
+    let cap = b .before .before in
+    let e = cap .before .args .existing .0 in
+    let low : ltb capPence e ≡ false = rw (cap .of-pounds .ensures) at (sym (b .before .is-above .ensures) ∙ b .if1 .left) in
+    c .is-above2 .ensures ∙ rw (c .before .less .ensures, c .before .before .of-pounds2 .ensures, cap .of-pounds .ensures) (under e _ low)
 
 pub above-cap-spec : {M : Type 1} → statement M
 above-cap-spec =

@@ -67,7 +67,9 @@ rates-at-requires : tie.Need-rates-at-requires
 rates-at-requires c κs = search needs
 
 add-upper-rates-at : tie.Need-add-upper-rates-at
-add-upper-rates-at c = omega (arith, pension-age-in _ (early-told _ (c .before .before .before .terms-refusal .ensures) .pass (c .before .before .if1 .left) .pension-age))
+add-upper-rates-at c =
+    let pass = early-told _ (c .before .before .before .terms-refusal .ensures) .pass (c .before .before .if1 .left) in
+    omega (arith, pension-age-in _ (pass .pension-age))
 
 upper-rates-at-requires : tie.Need-upper-rates-at-requires
 upper-rates-at-requires c κs = search needs
