@@ -1,6 +1,7 @@
 // Monthly rates for pension with a dependant's pension, option 2, in pence per £250 of pension a year: a line for each age from 16 to 66,
 // a place for each term from 1 to 20, 0 where nothing is printed. Each table stands in six parts of nine ages, the last
 // with three empty lines: the code builds a constant on the stack where it is used, and a lookup needs one part.
+// D65_25 is the part of D65 that begins at age 25.
 
 pub const D65_16: [u32; 180] = [
     11180,  5730,  3910,  3000,  2460,  2100,  1840,  1650,  1500,  1380,  1290,  1210,  1140,  1080,  1030,   990,   950,   920,   890,   860, // 16

@@ -1,17 +1,17 @@
 -- What callers use of an election's refusal and price, without opening either.
 -- Assumes nothing.
-use mathlib.Core.Bool.{Bool, true, false, not, _&&_, _||_}
+use mathlib.Core.Bool.{Bool, true, false, not, _||_}
 use mathlib.Core.Path.{_≡_, refl, sym, ap, subst, _∙_}
-use Prim.Native.Nat.{ℕ, _+_, _*_, _/_, _%_, _≤_, _<_}
-use native.Mathlib.Decide.{ℕ-discrete}
+use Prim.Native.Nat.{ℕ, _+_, _%_, _≤_, _<_}
 use native.Mathlib.Nat.{mul-le-mul}
 use native.Mathlib.Omega.{arith}
-use lib.Dec.{T, ltb, leb, eqb}
+use lib.Dec.{T, ltb, eqb}
 use borrow.Author.Tests.{ltb-false, eqb-true, eqb-false, eq-eqb, ne-eqb, not-false}
 use Rattle.common.specs.Choice.{pick}
-use Rattle.common.proofs.Choice.{chosen-number}
+use Rattle.common.proofs.Choice.{either, not-first, chosen-number}
 use Rattle.common.proofs.Tests.{or-false}
 use Rattle.rounding.proofs.Laws.{combine-most}
+use Rattle.money.specs.Limits.{stepPounds}
 use Rattle.terms.specs.declared.Terms.{Terms}
 use Rattle.election.specs.declared.Priced.{Priced}
 use Rattle.terms.specs.Rate.{tableRate}
@@ -49,8 +49,7 @@ module _ (t : Terms) (existing : ℕ) where
 
 -- A chain gives 0 only where its first test fails and the rest gives 0.
 passed : (b : Bool) (n rest : ℕ) → 0 < n → pick b n rest ≡ 0 → (b ≡ false) × (rest ≡ 0)
-passed true n rest p e = absurd (omega arith)
-passed false n rest p e = (refl, e)
+passed b n rest p = not-first (λ x. x ≡ 0) b n rest (λ z. omega arith)
 
 option-in : (t : Terms) → wrongOption t ≡ false → (1 ≤ t .option) × (t .option ≤ 2)
 unfolding wrongOption
@@ -79,8 +78,8 @@ accepted-facts t existing e =
     let r6 = passed (noUpperRate t) 6 _ (omega arith) (r5 .1) in
     let r7 = passed (wrongAmount t) 7 _ (omega arith) (r6 .1) in
     let r8 = passed (aboveCap t existing) 8 0 (omega arith) (r7 .1) in
-    let amount = or-false (ltb (t .amount) 250) (not (eqb (t .amount % 250) 0)) (r7 .0) in
-    let even : t .amount % 250 ≡ 0 = eqb-true (t .amount % 250) 0 (not-false _ (amount .1)) in
+    let amount = or-false (ltb (t .amount) stepPounds) (not (eqb (t .amount % stepPounds) 0)) (r7 .0) in
+    let even : t .amount % stepPounds ≡ 0 = eqb-true (t .amount % stepPounds) 0 (not-false _ (amount .1)) in
     let option = option-in t (r1 .0) in
     record {
       option-low = option .0;
@@ -98,17 +97,16 @@ accepted-facts t existing e =
 pub refusal-most : (t : Terms) (existing : ℕ) → refusalOf t existing ≤ 8
 unfolding refusalOf
 refusal-most t existing =
-    at-most (wrongOption t) 1 _ (omega arith)
-    (at-most (wrongPensionAge t) 2 _ (omega arith)
-    (at-most (wrongTerm t) 3 _ (omega arith)
-    (at-most (wrongPayer t) 4 _ (omega arith)
-    (at-most (noLowerRate t) 5 _ (omega arith)
-    (at-most (noUpperRate t) 6 _ (omega arith)
-    (at-most (wrongAmount t) 7 _ (omega arith) (at-most (aboveCap t existing) 8 0 (omega arith) (omega arith))))))))
+    either at-most (wrongOption t) (omega arith)
+    (either at-most (wrongPensionAge t) (omega arith)
+    (either at-most (wrongTerm t) (omega arith)
+    (either at-most (wrongPayer t) (omega arith)
+    (either at-most (noLowerRate t) (omega arith)
+    (either at-most (noUpperRate t) (omega arith)
+    (either at-most (wrongAmount t) (omega arith) (either at-most (aboveCap t existing) (omega arith) (omega arith))))))))
   where
-    at-most : (b : Bool) (n rest : ℕ) → n ≤ 8 → rest ≤ 8 → pick b n rest ≤ 8
-    at-most true n rest p q = p
-    at-most false n rest p q = q
+    at-most : ℕ → Type 0
+    at-most n = n ≤ 8
 
 -- the dearest election: twenty-six times £250 at the greatest rate
 pub contribution-most : (t : Terms) (existing : ℕ) → Accepted t existing → contributionOf t ≤ 11856000

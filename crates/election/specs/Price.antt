@@ -1,4 +1,4 @@
--- Document 01, "From rate to contribution and credit": what terms cost.
+-- Document 01, "From rate to contribution and credit": what terms cost, and the answer of `price`.
 -- Assumes nothing.
 use Prim.Native.Nat.{ℕ, _+_, _*_, _/_}
 use lib.Dec.{eqb}

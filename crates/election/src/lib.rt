@@ -41,7 +41,8 @@ fn no_upper_rate(t: Terms, upper: u32) -> bool
     upper == 0
 }
 
-// No sum of any existing pension and any amount is made, since it could wrap.
+// Whether the existing pension and the amount together are above the cap. No sum of any existing pension and any amount is made,
+// since it could wrap.
 fn above_cap(t: Terms, existing: PensionPence) -> bool
     ensures { λ r. ⌜ r ≡ aboveCap t (existing .0) ⌝ }
 {
@@ -98,7 +99,7 @@ fn upper_rates_at(t: Terms, pension_age: u32) -> [u32; 20]
 }
 
 // The rate of the term, of the monthly rates; a lump sum has its own table.
-fn rate_of(t: Terms, row: [u32; 20]) -> u32
+fn found_in(t: Terms, row: [u32; 20]) -> u32
     ensures { λ r. ⌜ r ≡ foundIn t row ⌝ }
 {
     if t.term == 0 {
@@ -138,8 +139,8 @@ pub fn price(t: Terms, existing: PensionPence) -> Priced
     }
     let lower = rates_at(t, t.years);
     let upper = upper_rates_at(t, t.years + 1);
-    let lower_rate = rate_of(t, lower);
-    let upper_rate = rate_of(t, upper);
+    let lower_rate = found_in(t, lower);
+    let upper_rate = found_in(t, upper);
     let late = price_refusal(t, lower_rate, upper_rate, existing);
     if late != 0 {
         return refuse(late);

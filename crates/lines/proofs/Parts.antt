@@ -4,7 +4,7 @@ use mathlib.Core.Path.{_≡_, refl, ap, _∙_}
 use mathlib.Core.List.{List, [], _∷_, _++_}
 use Prim.Native.Nat.{ℕ, zero, suc, _+_, _*_, _-_, _<_}
 use native.Mathlib.Omega.{arith}
-use lib.ListN.{getD, take, drop, replicate}
+use lib.ListN.{getD, drop, replicate}
 use lib.Seq.{getD-take, getD-drop}
 use Rattle.common.proofs.Table.{same-tabulate}
 use Rattle.lines.specs.Parts.{partOf, lineIn}

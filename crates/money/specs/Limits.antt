@@ -2,10 +2,11 @@
 -- Assumes nothing.
 use Prim.Native.Nat.{ℕ}
 
--- pounds of pension a year that a rate is for, and the same in pence
+-- pounds of pension a year that a rate is for
 abbrev pub stepPounds : ℕ
 stepPounds = 250
 
+-- the same in pence; `units` elsewhere is a number of such steps
 abbrev pub unit : ℕ
 unit = 25000
 

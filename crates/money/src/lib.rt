@@ -13,8 +13,10 @@ pub const UNIT: u64 = 25000;
 // The most pounds of pension a year that may be held.
 pub const CAP: u32 = 6500;
 
+// Pence of pension a year.
 pub struct PensionPence(pub u64);
 
+// Pence of contribution: a month's, or the whole lump sum.
 pub struct ContributionPence(pub u64);
 
 impl PensionPence {

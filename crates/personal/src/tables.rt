@@ -1,6 +1,7 @@
 // Monthly rates for personal pension, option 1, in pence per £250 of pension a year: a line for each age from 16 to 66,
 // a place for each term from 1 to 20, 0 where nothing is printed. Each table stands in six parts of nine ages, the last
 // with three empty lines: the code builds a constant on the stack where it is used, and a lookup needs one part.
+// P65_25 is the part of P65 that begins at age 25.
 
 pub const P65_16: [u32; 180] = [
     10380,  5310,  3630,  2790,  2290,  1950,  1710,  1540,  1400,  1280,  1190,  1120,  1060,  1000,   960,   920,   890,   850,   830,   800, // 16

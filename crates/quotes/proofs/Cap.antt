@@ -1,7 +1,6 @@
 -- The cap decision is the greatest multiple of £250 that fits.
 -- Assumes nothing.
-use mathlib.Core.Path.{_≡_}
-use Prim.Native.Nat.{ℕ, _+_, _*_, _-_, _/_, _%_, _≤_}
+use Prim.Native.Nat.{ℕ}
 use native.Mathlib.Omega.{arith}
 use Rattle.quotes.specs.Cap.{capDecisionOf, GreatestUnderCap}
 

@@ -8,8 +8,8 @@ use Rattle.money.specs.Limits.{stepPounds, unit, capPence}
 unfoldable pub capDecisionOf : ℕ → ℕ
 capDecisionOf existing = (capPence - existing) / unit * stepPounds
 
--- r pounds is a multiple of £250; it fits under the cap where the existing pension does, and is 0 where that does not; no
--- greater multiple fits
+-- r pounds is a multiple of £250; it fits under the cap where the existing pension does, and is 0 where that takes
+-- up the whole cap or more; no greater multiple fits
 pub record GreatestUnderCap (existing r : ℕ) : Type 0 where
   pub multiple : r % stepPounds ≡ 0
   pub fits : existing ≤ capPence → existing + r * 100 ≤ capPence

@@ -7,11 +7,11 @@ use Prim.Native.Nat.{ℕ, zero, suc, _+_, _-_, _%_, _≤_, _<_, zero-le}
 use native.Mathlib.Nat.{le-refl, le-trans}
 use native.Mathlib.Decide.{le-ind}
 use native.Mathlib.Omega.{arith}
-use lib.ListN.{length, getD, replicate, getD-replicate}
+use lib.ListN.{getD, replicate, getD-replicate}
 use lib.Dec.{ltb}
 use borrow.Author.Tests.{le-ltb, ltb-true, ltb-false}
 use Rattle.common.specs.Choice.{pick}
-use Rattle.common.proofs.Table.{length-tabulate, getD-tabulate}
+use Rattle.common.proofs.Table.{getD-tabulate}
 use Rattle.rates.specs.Rates.{rateOf, rowOf, rateIn, lumpRateOf, Printed, LumpPrinted}
 use Rattle.rates.proofs.Monthly.{Rules, rules, rate-known, rate-placed}
 use Rattle.rates.proofs.LumpSum as lump

@@ -1,5 +1,5 @@
 mod Walk
-pub mod Entries
+mod Entries
 pub mod Tables
 pub mod Rows
 mod Monthly

@@ -12,7 +12,7 @@ use borrow.Author.Tests.{ltb-false, le-ltb}
 use Rattle.rates.specs.LumpSum.{lumpSum}
 use Rattle.rates.specs.Rates.{lumpRateOf, LumpPrinted}
 use Rattle.rates.proofs.Walk.{Rule, always, Hold, every, every-at}
-use Rattle.rates.proofs.Entries.{chosen}
+use Rattle.rates.proofs.Entries.{above-0}
 
 abbrev rules-of : ℕ → List Rule
 rules-of x = always 1 x ∷ always x 456000 ∷ always (x % 1000) 0 ∷ []
@@ -35,10 +35,10 @@ rate-at o age r =
 pub printed : (o age : ℕ) → 0 < lumpRateOf o age → LumpPrinted o age
 unfolding lumpRateOf
 printed o age h =
-    let a = chosen (ltb o 1) _ h in
-    let b = chosen (ltb 2 o) _ (a .1) in
-    let c = chosen (ltb age 16) _ (b .1) in
-    let d = chosen (ltb 64 age) _ (c .1) in
+    let a = above-0 (ltb o 1) h in
+    let b = above-0 (ltb 2 o) (a .1) in
+    let c = above-0 (ltb age 16) (b .1) in
+    let d = above-0 (ltb 64 age) (c .1) in
     omega (arith, ltb-false o 1 (a .0), ltb-false 2 o (b .0), ltb-false age 16 (c .0), ltb-false 64 age (d .0))
 
 -- the rules of the lump sum for an option at an age

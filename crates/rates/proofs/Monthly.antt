@@ -16,7 +16,9 @@ use Rattle.rates.proofs.Walk.{Rule, always, given, Hold, every, every-a
 use Rattle.rates.proofs.Entries.{Placed, place, entry-at, entry-placed, entry-none}
 use Rattle.rates.proofs.Tables.{Known, known-or-empty}
 
--- the rules of an entry x of a table; y is the next of its row, z the next of its column
+-- the rules of an entry x of a table; y is the next of its row, z the next of its column. In this order, by which `rules` below
+-- counts: at most the greatest; tens of pence; printed where age + term < p; printed only there; the row never rises; the column
+-- never falls where it is printed
 abbrev rules-of : (p age term x y z : ℕ) → List Rule
 rules-of p age term x y z =
     always x 38160

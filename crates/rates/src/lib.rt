@@ -1,4 +1,5 @@
-// The published rates, in pence per £250 of pension a year: the rate for a term, a lump sum.
+// Two lookups, in pence per £250 of pension a year: the rate that a row has for a term, and the lump sum of Table S.
+// The monthly tables in code are in `personal` and `dependant`.
 ghost use mathlib.Core.Path.{_≡_};
 ghost use Rattle.rates.specs.Rates.{rateIn, lumpRateOf};
 

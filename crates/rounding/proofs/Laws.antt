@@ -1,14 +1,14 @@
--- What follows for any rounding from its being within a half, or monotone.
+-- What follows for any rounding from its being within a half, and the same of `nearest`.
 -- Assumes nothing.
 use mathlib.Core.Path.{_≡_, ap, _∙_}
 use Prim.Native.Nat.{ℕ, _+_, _*_, _-_, _≤_, _<_}
 use native.Mathlib.Nat.{mul-le-mul-left, lt-of-mul-lt-mul-left, le-antisymm}
 use native.Mathlib.Omega.{arith}
 use lib.Dec.{eqb}
-use borrow.Author.Tests.{eq-eqb, eqb-false}
+use borrow.Author.Tests.{eq-eqb, ne-eqb, eqb-false}
 use Rattle.common.proofs.Tests.{by-test}
 use Rattle.rounding.specs.Nearest.{nearest, blendBy, blend, combineBy, combine}
-use Rattle.rounding.specs.Rounding.{WithinHalf, Monotone}
+use Rattle.rounding.specs.Rounding.{WithinHalf}
 use Rattle.rounding.proofs.HalfUp.{nearest-within-half}
 
 -- twelfths m and 12 − m of figures that are at most u, or at least l
@@ -30,7 +30,7 @@ module _ (round : ℕ → ℕ → ℕ) (half : WithinHalf round) where
       omega (arith, lt-of-mul-lt-mul-left (2 * d) l)
 
   -- a quotient of at least q rounds to at least q
-  pub round-least : (n d q : ℕ) → 0 < d → q * d ≤ n → q ≤ round n d
+  round-least : (n d q : ℕ) → 0 < d → q * d ≤ n → q ≤ round n d
   round-least n d q d0 h =
       let l : 2 * d * q < 2 * d * (round n d + 1) = omega (arith, half .below n d d0) in
       omega (arith, lt-of-mul-lt-mul-left (2 * d) l)
@@ -43,7 +43,7 @@ module _ (round : ℕ → ℕ → ℕ) (half : WithinHalf round) where
   pub blended-most : (m lo hi u : ℕ) → m ≤ 12 → lo ≤ u → hi ≤ u → blendBy round m lo hi ≤ u
   blended-most m lo hi u h p q = round-most ((12 - m) * lo + m * hi) 12 u (omega arith) (weighted-most m lo hi u h p q)
 
-  pub blended-least : (m lo hi l : ℕ) → m ≤ 12 → l ≤ lo → l ≤ hi → l ≤ blendBy round m lo hi
+  blended-least : (m lo hi l : ℕ) → m ≤ 12 → l ≤ lo → l ≤ hi → l ≤ blendBy round m lo hi
   blended-least m lo hi l h p q = round-least ((12 - m) * lo + m * hi) 12 l (omega arith) (weighted-least m lo hi l h p q)
 
   -- no twelfths: the first figure itself
@@ -75,6 +75,11 @@ pub combine-upper : (m lo a b : ℕ) → ((m ≡ 0 → ⊥) → a ≡ b) → com
 unfolding combine
 combine-upper m lo a b h = by-test (eqb m 0) (λ e. rw e) (λ e. ap (combineBy nearest m lo) (h (eqb-false m 0 e)))
 
+-- at a whole pension age the lower figure itself, with odd months the blend
 pub combine-none : (m lo hi : ℕ) → m ≡ 0 → combine m lo hi ≡ lo
 unfolding combine
 combine-none m lo hi z = rw (eq-eqb m 0 z)
+
+pub combine-odd : (m lo hi : ℕ) → (m ≡ 0 → ⊥) → combine m lo hi ≡ blend m lo hi
+unfolding blend combine
+combine-odd m lo hi odd = rw (ne-eqb m 0 odd)

@@ -1,5 +1,5 @@
 // Rounding to the nearest whole number, and the blend of two figures by twelfths.
-// Callers go by the laws of proofs/Laws, so that another rounding can stand behind the name `nearest`.
+// Callers go by the laws of proofs/HalfUp and proofs/Laws, so that another rounding can stand behind the name `nearest`.
 ghost use mathlib.Core.Path.{_≡_};
 ghost use Rattle.rounding.specs.Nearest.{nearest, blend};
 

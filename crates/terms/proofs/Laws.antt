@@ -7,7 +7,7 @@ use native.Mathlib.Omega.{arith}
 use Rattle.common.specs.Choice.{pick}
 use Rattle.terms.specs.declared.Terms.{Terms}
 use Rattle.terms.specs.Rules.{wrongOption, wrongPensionAge, wrongTerm, wrongPayer, noLowerRate, noUpperRate, wrongAmount, aboveCap, refusalOf, early}
-use Rattle.terms.specs.Told.{TermsPass, TermsTold}
+use Rattle.terms.specs.Told.{TermsTold}
 
 -- the chain's second half is never early
 pub late : (a b c d : Bool) → early (pick a 5 (pick b 6 (pick c 7 (pick d 8 0)))) ≡ 0

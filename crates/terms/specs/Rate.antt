@@ -13,6 +13,7 @@ unfoldable pub tableRate : Terms → ℕ → ℕ
 tableRate t pensionAge =
     pick (eqb (t .term) 0) (lumpRateOf (t .option) (t .age)) (rateOf (t .option) pensionAge (t .age) (t .term))
 
+-- a row of zeros: no rates
 abbrev pub noRates : List ℕ
 noRates = replicate 20 0
 
@@ -24,6 +25,7 @@ ratesAt t pensionAge = pick (eqb (t .term) 0) noRates (rowOf (t .option) pension
 unfoldable pub upperRatesAt : Terms → ℕ → List ℕ
 upperRatesAt t pensionAge = pick (eqb (t .months) 0) noRates (ratesAt t pensionAge)
 
--- the rate of the term that is found in such a row; a lump sum has its own table
+-- the rate of the term that is found in such a row; a lump sum has its own table. It is what the code looks up; election's `found`
+-- says that it is `tableRate`.
 unfoldable pub foundIn : Terms → List ℕ → ℕ
 foundIn t row = pick (eqb (t .term) 0) (lumpRateOf (t .option) (t .age)) (rateIn row (t .term))

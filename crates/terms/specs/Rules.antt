@@ -52,6 +52,6 @@ refusalOf t existing =
     (pick (wrongAmount t) 7
     (pick (aboveCap t existing) 8 0)))))))
 
--- of a refusal's number, those of the rules that need no rate, 1 to 4
+-- a refusal's number where it is 1 to 4, the rules that need no rate; else 0
 unfoldable pub early : ℕ → ℕ
 early n = pick (ltb n 5) n 0

@@ -1,4 +1,4 @@
--- What the rules before the rates tell.
+-- What a caller learns from `terms_refusal`: the first refusal of 1 to 4, or that those four rules pass.
 -- Assumes nothing.
 use mathlib.Core.Bool.{false}
 use mathlib.Core.Path.{_≡_}

@@ -3,7 +3,7 @@ ghost use mathlib.Core.Path.{_≡_};
 ghost use Rattle.terms.specs.Rules.{wrongOption, wrongPensionAge, wrongPayer, refusalOf, early};
 
 // Age in whole years, pension age in years and months, 1 personal or 2 with dependant's pension, 1 member or 2 employer,
-// years of monthly payments or 0 for a lump sum, pounds of pension a year. Any numbers: price refuses bad ones.
+// years of monthly payments or 0 for a lump sum, pounds of pension a year. Any numbers: `election::price` refuses bad ones.
 pub struct Terms {
     pub age: u32,
     pub years: u32,
@@ -50,7 +50,8 @@ fn wrong_payer(t: Terms) -> bool
     true
 }
 
-// The rules that need no rate, 1 to 4: the first that refuses, else 0.
+// The rules that need no rate, 1 to 4: the first that refuses, else 0. They do not look at existing pension, hence the 0 in the
+// promise.
 pub fn terms_refusal(t: Terms) -> u32
     ensures { λ r. ⌜ r ≡ early (refusalOf t 0) ⌝ }
 {

@@ -1,14 +1,14 @@
 -- `election::no_upper_rate` meets its contract: test by test.
 -- Assumes nothing.
-use borrow.Author.Tests.{eq-eqb, ne-eqb}
+use Rattle.common.proofs.Tests.{tests}
 use Rattle.election.proofs.no_upper_rate.Statement.{statement}
 use Rattle.election.proofs.no_upper_rate.Tie as tie
 
 returns : tie.Need-returns
-returns c = rw (eq-eqb _ _ (c .if1 .taken))
+returns c = search tests
 
 returns-2 : tie.Need-returns-2
-returns-2 c = rw (ne-eqb _ _ (c .if1 .left))
+returns-2 c = search tests
 
 pub no-upper-rate-spec : {M : Type 1} → statement M
 no-upper-rate-spec = tie.close (tie.spec returns returns-2)

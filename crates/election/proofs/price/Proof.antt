@@ -1,13 +1,13 @@
 -- `election::price` meets its contract: the two halves of the chain give the first refusal, and the rows the rates.
 -- Assumes nothing.
 use mathlib.Core.List.{List}
-use mathlib.Core.Path.{_≡_, refl, sym, ap, _∙_}
-use Prim.Native.Nat.{ℕ, _+_, _≤_, _<_}
+use mathlib.Core.Path.{_≡_, sym, ap, _∙_}
+use Prim.Native.Nat.{ℕ, _+_}
 use native.Mathlib.Omega.{arith}
 use borrow.Author.Needs.{needs}
 use Rattle.election.proofs.Laws.{pension-age-in, priced-refused, priced-accepted, accepted-facts}
-use Rattle.election.proofs.Rates.{found, found-upper, found-upper-most, table-rate-most}
-use Rattle.election.specs.Price.{contributionAt, contributionIn, contributionOf, refused, accepted, pricedOf}
+use Rattle.election.proofs.Rates.{lower-found, upper-found, found-upper-most, table-rate-most}
+use Rattle.election.specs.Price.{contributionAt, contributionIn, contributionOf, refused, pricedOf}
 use Rattle.terms.specs.Rate.{tableRate, ratesAt, upperRatesAt, foundIn}
 use Rattle.terms.specs.Rules.{refusalOf, early}
 use Rattle.terms.specs.Told.{TermsTold}
@@ -40,6 +40,17 @@ whole t existing h p q r = rw (p, q, r) (sym (priced-accepted t existing h))
 early-told : (t : Terms) {n : ℕ} → n ≡ early (refusalOf t 0) → TermsTold t n
 early-told t e = rw e (terms-told t)
 
+-- the rates that were looked up are those of the tables
+module _ (c : tie.After-found-in2) where
+  abbrev terms-of : Terms
+  terms-of = c .before .before .before .before .before .before .before .args .t
+
+  lower-is : c .before .found-in .result ≡ tableRate terms-of (terms-of .years)
+  lower-is = lower-found terms-of _ (c .before .before .before .before .rates-at .ensures) (c .before .found-in .ensures)
+
+  upper-is : (terms-of .months ≡ 0 → ⊥) → c .found-in2 .result ≡ tableRate terms-of (terms-of .years + 1)
+  upper-is = upper-found terms-of _ (c .before .before .upper-rates-at .ensures) (c .found-in2 .ensures)
+
 terms-refusal-requires : tie.Need-terms-refusal-requires
 terms-refusal-requires c κs = search needs
 
@@ -56,24 +67,26 @@ rates-at-requires : tie.Need-rates-at-requires
 rates-at-requires c κs = search needs
 
 add-upper-rates-at : tie.Need-add-upper-rates-at
-add-upper-rates-at c = omega (arith, pension-age-in _ (early-told _ (c .before .before .before .terms-refusal .ensures) .pass (c .before .before .if1 .left) .pension-age))
+add-upper-rates-at c =
+    let pass = early-told _ (c .before .before .before .terms-refusal .ensures) .pass (c .before .before .if1 .left) in
+    omega (arith, pension-age-in _ (pass .pension-age))
 
 upper-rates-at-requires : tie.Need-upper-rates-at-requires
 upper-rates-at-requires c κs = search needs
 
-rate-of-requires : tie.Need-rate-of-requires
-rate-of-requires c κs = search needs
+found-in-requires : tie.Need-found-in-requires
+found-in-requires c κs = search needs
 
-rate-of-requires-2 : tie.Need-rate-of-requires-2
-rate-of-requires-2 c κs = search needs
+found-in-requires-2 : tie.Need-found-in-requires-2
+found-in-requires-2 c κs = search needs
 
 price-refusal-requires : tie.Need-price-refusal-requires
 price-refusal-requires c κs =
-    let t = c .before .before .before .before .before .before .before .args .t in
+    let early = c .before .before .before .before .before in
     record {
-      pass = early-told _ (c .before .before .before .before .before .before .terms-refusal .ensures) .pass (c .before .before .before .before .before .if1 .left);
-      lower-is = c .before .rate-of .ensures ∙ ap (foundIn t) (c .before .before .before .before .rates-at .ensures) ∙ found t _;
-      upper-is = λ odd. c .rate-of2 .ensures ∙ ap (foundIn t) (c .before .before .upper-rates-at .ensures) ∙ found-upper t _ odd;
+      pass = early-told _ (early .before .terms-refusal .ensures) .pass (early .if1 .left);
+      lower-is = lower-is c;
+      upper-is = upper-is c;
     }
 
 refuse-requires-2 : tie.Need-refuse-requires-2
@@ -84,16 +97,21 @@ returns-2 c = c .refuse2 .ensures ∙ first _ _ _ (c .before .before .price-refu
 
 cost-requires : tie.Need-cost-requires
 cost-requires c κs =
-    let t = c .before .before .before .before .before .before .before .before .before .args .t in
+    let b = c .before .before in
+    let t = terms-of b in
     let low = accepted-facts t _ (sym (c .before .price-refusal .ensures) ∙ c .if2 .left) in
-    (omega (arith, low .under-cap), omega (arith, c .before .before .before .rate-of .ensures ∙ ap (foundIn t) (c .before .before .before .before .before .before .rates-at .ensures) ∙ found t _, table-rate-most t (t .years)), omega (arith, c .before .before .rate-of2 .ensures ∙ ap (foundIn t) (c .before .before .before .before .upper-rates-at .ensures), found-upper-most t (t .years + 1)))
+    (
+      omega (arith, low .under-cap),
+      omega (arith, lower-is b, table-rate-most t (t .years)),
+      omega (arith, b .found-in2 .ensures ∙ ap (foundIn t) (b .before .before .upper-rates-at .ensures), found-upper-most t (t .years + 1)),
+    )
 
 returns-3 : tie.Need-returns-3
 returns-3 c =
-    let t = c .before .before .before .before .before .before .before .before .before .before .args .t in
-    let lower-is = c .before .before .before .before .rate-of .ensures ∙ ap (foundIn t) (c .before .before .before .before .before .before .before .rates-at .ensures) ∙ found t _ in
-    whole t _ (sym (c .before .before .price-refusal .ensures) ∙ c .before .if2 .left)
-    (c .cost .ensures ∙ ap contribution (costs t _ _ lower-is (λ odd. c .before .before .before .rate-of2 .ensures ∙ ap (foundIn t) (c .before .before .before .before .before .upper-rates-at .ensures) ∙ found-upper t _ odd))) (c .before .before .before .before .before .before .before .rates-at .ensures) (c .before .before .before .before .before .upper-rates-at .ensures)
+    let b = c .before .before .before in
+    whole (terms-of b) _ (sym (c .before .before .price-refusal .ensures) ∙ c .before .if2 .left)
+    (c .cost .ensures ∙ ap contribution (costs (terms-of b) _ _ (lower-is b) (upper-is b)))
+    (b .before .before .before .before .rates-at .ensures) (b .before .before .upper-rates-at .ensures)
 
 pub price-spec : {M : Type 1} → statement M
 price-spec =
@@ -105,8 +123,8 @@ price-spec =
     rates-at-requires
     add-upper-rates-at
     upper-rates-at-requires
-    rate-of-requires
-    rate-of-requires-2
+    found-in-requires
+    found-in-requires-2
     price-refusal-requires
     refuse-requires-2
     returns-2

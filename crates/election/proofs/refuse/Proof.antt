@@ -1,10 +1,6 @@
 -- `election::refuse` meets its contract: the number, no contribution and no rates.
 -- Assumes nothing.
-use mathlib.Core.Path.{_≡_, refl, sym, ap, _∙_}
 use borrow.Author.Needs.{needs}
-use Rattle.election.specs.Price.{refused}
-use Rattle.terms.specs.Rate.{noRates}
-use Rattle.election.specs.declared.Priced.{Priced}
 use Rattle.election.proofs.refuse.Statement.{statement}
 use Rattle.election.proofs.refuse.Tie as tie
 

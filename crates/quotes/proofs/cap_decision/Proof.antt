@@ -4,17 +4,21 @@ use mathlib.Core.Path.{_≡_, ap, subst, sym, _∙_}
 use Prim.Native.Nat.{ℕ, _*_, _-_, _/_}
 use native.Mathlib.Omega.{arith}
 use borrow.Author.Needs.{needs}
+use Rattle.money.specs.Limits.{stepPounds, unit, capPence}
 use Rattle.quotes.proofs.Cap.{cap-decision-greatest}
 use Rattle.quotes.specs.Cap.{capDecisionOf, GreatestUnderCap}
 use Rattle.quotes.proofs.cap_decision.Statement.{statement}
 use Rattle.quotes.proofs.cap_decision.Tie as tie
 
-steps : (c : tie.After-whole-steps) → c .whole-steps .result ≡ (650000 - c .before .before .before .before .args .existing .0) / 25000
-steps c = c .whole-steps .ensures ∙ rw (c .before .before .less .ensures, c .before .of-pounds2 .ensures, c .before .before .before .of-pounds .ensures)
+steps : (c : tie.After-whole-steps) → c .whole-steps .result ≡ (capPence - c .before .before .before .before .args .existing .0) / unit
+steps c =
+    let less = c .before .before in
+    c .whole-steps .ensures ∙ rw (less .less .ensures, c .before .of-pounds2 .ensures, less .before .of-pounds .ensures)
 
-decided : (c : tie.After-whole-steps) → c .whole-steps .result * 250 ≡ capDecisionOf (c .before .before .before .before .args .existing .0)
+decided : (c : tie.After-whole-steps)
+    → c .whole-steps .result * stepPounds ≡ capDecisionOf (c .before .before .before .before .args .existing .0)
 unfolding capDecisionOf
-decided c = ap (λ (n : ℕ). n * 250) (steps c)
+decided c = ap (λ (n : ℕ). n * stepPounds) (steps c)
 
 of-pounds-requires : tie.Need-of-pounds-requires
 of-pounds-requires c κs = search needs

@@ -1,21 +1,18 @@
 -- `quotes::quote` meets its contract: the terms' refusal, then a full register, then the quote.
 -- Assumes nothing.
-use mathlib.Core.Path.{_≡_, refl, sym, ap, _∙_}
+use mathlib.Core.Path.{_≡_, sym, ap, _∙_}
 use Prim.Native.Nat.{ℕ, _+_, _≤_, _<_}
 use native.Mathlib.Omega.{arith}
 use borrow.Author.Needs.{needs}
 use borrow.Author.Tests.{eq-eqb, ne-eqb, le-leb, lt-leb}
-use Rattle.election.proofs.Laws.{priced-refusal, priced-contribution}
-use Rattle.election.specs.Price.{contributionOf, pricedOf}
+use Rattle.election.proofs.Laws.{priced-told, priced-contribution}
+use Rattle.election.specs.Price.{contributionOf}
 use Rattle.terms.specs.Rules.{refusalOf}
 use Rattle.election.specs.declared.Priced.{Priced}
 use Rattle.terms.specs.declared.Terms.{Terms}
 use Rattle.quotes.specs.Quote.{QuoteNumbers, quoteRefusal, quoteOf, numbersOf}
 use Rattle.quotes.proofs.quote.Statement.{statement}
 use Rattle.quotes.proofs.quote.Tie as tie
-
-told-refusal : (t : Terms) (existing : ℕ) {p : Priced} → p ≡ pricedOf t existing → p .refusal ≡ refusalOf t existing
-told-refusal t existing e = ap (λ (p : Priced). p .refusal) e ∙ priced-refusal t existing
 
 module _ (t : Terms) (existing last : ℕ) where
   by-terms : (refusalOf t existing ≡ 0 → ⊥) → quoteRefusal t existing last ≡ refusalOf t existing
@@ -48,7 +45,7 @@ refuse-requires c κs = search needs
 
 returns : tie.Need-returns
 returns c =
-    let told = told-refusal _ _ (c .before .before .before .price .ensures) in
+    let told = priced-told _ _ (c .before .before .before .price .ensures) in
     let some = c .before .if1 .taken in
     ap numbersOf (c .refuse .ensures) ∙ refused _ _ _ _ (told ∙ sym (by-terms _ _ _ (λ z. some (told ∙ z)))) some
 
@@ -57,7 +54,8 @@ refuse-requires-2 c κs = search needs
 
 returns-2 : tie.Need-returns-2
 returns-2 c =
-    let pass = sym (told-refusal _ _ (c .before .before .before .before .before .price .ensures)) ∙ c .before .before .before .if1 .left in
+    let b = c .before .before .before in
+    let pass = sym (priced-told _ _ (b .before .before .price .ensures)) ∙ b .if1 .left in
     ap numbersOf (c .refuse2 .ensures) ∙ refused _ _ _ _ (sym (full _ _ _ pass (c .before .if2 .taken))) (λ z. omega arith)
 
 add-number : tie.Need-add-number
@@ -65,9 +63,11 @@ add-number c = search needs
 
 returns-3 : tie.Need-returns-3
 returns-3 c =
-    let paid = c .before .before .before .before .before .before .price .ensures in
-    let pass = sym (told-refusal _ _ paid) ∙ c .before .before .before .before .if1 .left in
-    made _ _ _ _ (ap (λ (p : Priced). p .contribution .0) paid ∙ priced-contribution _ _ pass) (open-register _ _ _ pass (c .before .before .if2 .left))
+    let b = c .before .before .before .before in
+    let paid = b .before .before .price .ensures in
+    let pass = sym (priced-told _ _ paid) ∙ b .if1 .left in
+    made _ _ _ _ (ap (λ (p : Priced). p .contribution .0) paid ∙ priced-contribution _ _ pass)
+    (open-register _ _ _ pass (c .before .before .if2 .left))
 
 pub quote-spec : {M : Type 1} → statement M
 quote-spec =

@@ -20,7 +20,11 @@ wrong-pension-age-requires c κs = search needs
 
 returns-2 : tie.Need-returns-2
 unfolding refusalOf early
-returns-2 c = rw (sym (c .before .before .before .wrong-option .ensures) ∙ c .before .before .if1 .left, sym (c .before .wrong-pension-age .ensures) ∙ c .if2 .taken)
+returns-2 c =
+    rw (
+      sym (c .before .before .before .wrong-option .ensures) ∙ c .before .before .if1 .left,
+      sym (c .before .wrong-pension-age .ensures) ∙ c .if2 .taken,
+    )
 
 returns-3 : tie.Need-returns-3
 unfolding refusalOf early wrongTerm
@@ -37,9 +41,11 @@ wrong-payer-requires c κs = search needs
 returns-4 : tie.Need-returns-4
 unfolding refusalOf early wrongTerm
 returns-4 c =
+    let option = c .before .before .before .before .before .before in
+    let age = c .before .before .before .before in
     rw (
-      sym (c .before .before .before .before .before .before .before .wrong-option .ensures) ∙ c .before .before .before .before .before .before .if1 .left,
-      sym (c .before .before .before .before .before .wrong-pension-age .ensures) ∙ c .before .before .before .before .if2 .left,
+      sym (option .before .wrong-option .ensures) ∙ option .if1 .left,
+      sym (age .before .wrong-pension-age .ensures) ∙ age .if2 .left,
       le-ltb _ _ (c .before .before .if3 .left),
       sym (c .before .wrong-payer .ensures) ∙ c .if4 .taken,
     )
@@ -47,9 +53,11 @@ returns-4 c =
 returns-5 : tie.Need-returns-5
 unfolding refusalOf wrongTerm
 returns-5 c =
+    let option = c .before .before .before .before .before .before in
+    let age = c .before .before .before .before in
     rw (
-      sym (c .before .before .before .before .before .before .before .wrong-option .ensures) ∙ c .before .before .before .before .before .before .if1 .left,
-      sym (c .before .before .before .before .before .wrong-pension-age .ensures) ∙ c .before .before .before .before .if2 .left,
+      sym (option .before .wrong-option .ensures) ∙ option .if1 .left,
+      sym (age .before .wrong-pension-age .ensures) ∙ age .if2 .left,
       le-ltb _ _ (c .before .before .if3 .left),
       sym (c .before .wrong-payer .ensures) ∙ c .if4 .left,
     )

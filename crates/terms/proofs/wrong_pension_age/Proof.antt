@@ -1,18 +1,18 @@
 -- `terms::wrong_pension_age` meets its contract: test by test.
 -- Assumes nothing.
 use borrow.Author.Needs.{needs}
-use borrow.Author.Tests.{lt-ltb, le-ltb}
+use Rattle.common.proofs.Tests.{tests}
 use Rattle.terms.specs.Rules.{wrongPensionAge}
 use Rattle.terms.proofs.wrong_pension_age.Statement.{statement}
 use Rattle.terms.proofs.wrong_pension_age.Tie as tie
 
 returns : tie.Need-returns
 unfolding wrongPensionAge
-returns c = rw (lt-ltb _ _ (c .if1 .taken))
+returns c = search tests
 
 returns-2 : tie.Need-returns-2
 unfolding wrongPensionAge
-returns-2 c = rw (le-ltb _ _ (c .before .before .if1 .left), lt-ltb _ _ (c .if2 .taken))
+returns-2 c = search tests
 
 mul-result : tie.Need-mul-result
 mul-result c = search needs
@@ -31,7 +31,7 @@ add-result c = search needs
 
 returns-3 : tie.Need-returns-3
 unfolding wrongPensionAge
-returns-3 c = rw (le-ltb _ _ (c .before .before .before .before .if1 .left), le-ltb _ _ (c .before .before .if2 .left))
+returns-3 c = search tests
 
 pub wrong-pension-age-spec : {M : Type 1} → statement M
 wrong-pension-age-spec =

@@ -1,21 +1,20 @@
 -- `money::ContributionPence::combine` meets its contract: only odd months blend.
 -- Assumes nothing.
+use mathlib.Core.Path.{sym, ap, _∙_}
 use borrow.Author.Needs.{needs}
-use borrow.Author.Tests.{eq-eqb, ne-eqb}
-use Rattle.rounding.specs.Nearest.{blend, combine}
+use Rattle.rounding.proofs.Laws.{combine-none, combine-odd}
+use Rattle.money.specs.Money.{contribution}
 use Rattle.money.proofs.ContributionPence.combine.Statement.{statement}
 use Rattle.money.proofs.ContributionPence.combine.Tie as tie
 
 returns : tie.Need-returns
-unfolding combine
-returns c = rw (eq-eqb _ _ (c .if1 .taken))
+returns c = ap contribution (sym (combine-none _ _ _ (c .if1 .taken)))
 
 blend-requires : tie.Need-blend-requires
 blend-requires c κs = search needs
 
 returns-2 : tie.Need-returns-2
-unfolding blend combine
-returns-2 c = rw (ne-eqb _ _ (c .before .if1 .left)) (c .blend .ensures)
+returns-2 c = c .blend .ensures ∙ ap contribution (sym (combine-odd _ _ _ (c .before .if1 .left)))
 
 pub combine-spec : {M : Type 1} → statement M
 combine-spec = tie.close (tie.spec returns blend-requires returns-2)
