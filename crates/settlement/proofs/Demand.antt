@@ -18,7 +18,7 @@ use Rattle.status.specs.Status.{statusOf}
 use Rattle.status.proofs.StatusOf.{monthly-status}
 use Rattle.credit.specs.Runs.{paid, startsAfter, runCount}
 use Rattle.distance.proofs.Distance.{distance}
-use Rattle.distance.proofs.Amount.{credit-most, full-term}
+use Rattle.distance.proofs.Amount.{contract-most, full-term}
 use Rattle.examination.specs.Examine.{settleRefusal}
 use Rattle.examination.proofs.Laws.{accepted, lawful}
 use Rattle.settlement.specs.Credit.{purchasesOf, creditOf, exactCreditOf}
@@ -71,7 +71,7 @@ worked-most t ms none monthly =
     let a = accepted t ms none in
     omega (
       arith,
-      credit-most nearest nearest-within-half nearest-monotone (purchasesOf t) (sound t a monthly) ms (lawful t ms none .few),
+      contract-most nearest nearest-within-half nearest-monotone (purchasesOf t) (sound t a monthly) ms (lawful t ms none .few),
       a .whole,
     )
 
