@@ -109,6 +109,7 @@ pub fn schedule(t: Terms, marks: &[u8], out: &mut [u32]) -> Scheduled
             place: 0,
         };
     }
+    // Nothing to write. A contract with a mark is monthly, so from here on it has rates.
     if marks.len() == 0 {
         return Scheduled {
             refusal: 0,

@@ -1,8 +1,7 @@
--- `schedule::upper_years` meets its contract: the upper table's row has a price with odd months.
+-- `schedule::upper_years` meets its contract: with odd months the upper table's row is sound.
 -- Assumes nothing.
-use Prim.Native.Nat.{ℕ, _+_}
 use native.Mathlib.Omega.{arith}
-use Rattle.settlement.proofs.Purchases.{upper-priced, years-of}
+use Rattle.settlement.proofs.Purchases.{upper-sound, years-of}
 use Rattle.schedule.proofs.upper_years.Statement.{statement}
 use Rattle.schedule.proofs.upper_years.Tie as tie
 
@@ -12,7 +11,7 @@ returns c = record { is = λ odd. absurd (odd (c .if1 .taken)); most = c .before
 year-credits-requires : tie.Need-year-credits-requires
 year-credits-requires c κs =
     let m = c .before .before .before .pre .0 in
-    upper-priced _ (m .accepted) (m .some-years) (c .before .if1 .left) (m .upper-is (c .before .if1 .left))
+    upper-sound _ (m .accepted) (m .some-years) (c .before .if1 .left) (m .upper-is (c .before .if1 .left))
 
 returns-2 : tie.Need-returns-2
 returns-2 c =
