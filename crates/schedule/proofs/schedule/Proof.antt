@@ -12,7 +12,7 @@ use Rattle.terms.specs.declared.Terms.{Terms}
 use Rattle.schedule.specs.Schedule.{ScheduleNumbers, filledOf, scheduleOf}
 use Rattle.settlement.proofs.Purchases.{lower-sound, years-of}
 use Rattle.examination.proofs.Examination.{examined-told, examined-none, examined-monthly}
-use Rattle.examination.proofs.Laws.{lawful, accepted, examined-refused}
+use Rattle.examination.proofs.Laws.{lawful, examined-refused}
 use Rattle.examination.specs.Examine.{settleRefusal, examinedOf, Monthly}
 use Rattle.examination.specs.declared.Examined.{Examined}
 use Rattle.schedule.proofs.schedule.Statement.{statement}
@@ -74,7 +74,12 @@ year-credits-requires c κs =
 upper-years-requires : tie.Need-upper-years-requires
 upper-years-requires c κs =
     let m = monthly-terms _ _ (c .before .before .before .before .before .before .before .before .examine .ensures) (c .before .before .before .before .before .before .if1 .left) (c .before .before .before .before .if3 .left) in
-    (m, λ n. omega (arith, c .year-credits .ensures .1 n, m .accepted .under-cap))
+    record {
+      accepted = m .accepted;
+      some-years = m .some-years;
+      upper-is = m .upper-is;
+      only-most = λ n. omega (arith, c .year-credits .ensures .1 n, m .accepted .under-cap);
+    }
 
 fill-requires : tie.Need-fill-requires
 fill-requires c κs =
