@@ -35,7 +35,8 @@ module _ (t : Terms) (a : Accepted t 0) (monthly : 0 < t .term) where
         odd-most = omega (arith, a .pension-age .months-high);
         term-most = a .term-high;
         lower-falls = falling-row (t .option) (t .years) (t .age) (t .amount / stepPounds) (t .term) lower-printed;
-        upper-falls = λ odd. falling-row (t .option) (t .years + 1) (t .age) (t .amount / stepPounds) (t .term) (upper-printed (λ z. omega arith));
+        upper-falls =
+            λ odd. falling-row (t .option) (t .years + 1) (t .age) (t .amount / stepPounds) (t .term) (upper-printed (λ z. omega arith));
         same-term = refl;
         same-units = refl;
       }
