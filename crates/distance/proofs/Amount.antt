@@ -31,7 +31,7 @@ all-paid value (suc n) h = rw (one-run n 0 1) (omega (arith, ap value {x = 1 + n
 
 module _ (round : ℕ → ℕ → ℕ) (half : WithinHalf round) where
   module _ (mono : Monotone round) where
-    pub table-most : (p : Purchase) → p .term ≤ 20 → Falling p → (marks : List ℕ) → length marks ≤ 12 * p .term
+    table-most : (p : Purchase) → p .term ≤ 20 → Falling p → (marks : List ℕ) → length marks ≤ 12 * p .term
         → creditIn round p marks ≤ p .units * unit
     unfolding creditIn creditOver
     table-most p short falling marks fits =
@@ -41,15 +41,15 @@ module _ (round : ℕ → ℕ → ℕ) (half : WithinHalf round) where
           month-most round half (yearCredits round p) (p .units * unit) (years-most round half p short falling) (12 * p .term),
         )
 
-    pub credit-most : (c : Purchases) → Sound c → (marks : List ℕ) → length marks ≤ 12 * c .lower .term
+    pub contract-most : (c : Purchases) → Sound c → (marks : List ℕ) → length marks ≤ 12 * c .lower .term
         → creditBy round c marks ≤ c .lower .units * unit
-    credit-most c sound marks fits =
+    contract-most c sound marks fits =
         let u = c .lower .units * unit in
         let most = tables c sound (λ p. creditIn round p marks ≤ u)
         (λ p term units short falling. omega (arith, table-most p short falling marks (rw term fits))) in
         combined-most round half (c .odd) _ _ u (omega (arith, sound .odd-most)) (most .0) (most .1)
 
-  pub table-full : (p : Purchase) → p .term ≤ 20 → Falling p → 0 < p .term → creditIn round p (replicate (12 * p .term) 1) ≡ p .units * unit
+  table-full : (p : Purchase) → p .term ≤ 20 → Falling p → 0 < p .term → creditIn round p (replicate (12 * p .term) 1) ≡ p .units * unit
   unfolding creditIn creditOver
   table-full p short falling h =
       let r = p .rate (p .term) in

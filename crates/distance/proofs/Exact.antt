@@ -24,10 +24,11 @@ denominator p = product (p .rate) (p .term)
 pub share : Purchase → ℕ → ℕ → ℕ
 share p n d = n * (denominator p / d)
 
--- exact year n over it is the year credit by that; what a month of year n adds, over twelve times it
+-- exact year n over that denominator: the year credit with `share` as its rounding
 abbrev pub exactOver : Purchase → ℕ → ℕ
 exactOver p = yearCredit (share p) p
 
+-- what a paid mark at index i adds, over twelve times it
 abbrev pub monthOver : Purchase → ℕ → ℕ
 monthOver p i = exactOver p (suc (i / 12)) - exactOver p (i / 12)
 
@@ -36,7 +37,7 @@ module _ (p : Purchase) (falling : Falling p) where
   unfolding denominator
   denominator-positive = product-positive (p .rate) (p .term) (falling .positive)
 
-  pub share-exact : (m n : ℕ) → 0 < n → n ≤ p .term → share p m (p .rate n) * p .rate n ≡ m * denominator p
+  share-exact : (m n : ℕ) → 0 < n → n ≤ p .term → share p m (p .rate n) * p .rate n ≡ m * denominator p
   unfolding share denominator
   share-exact m n a b = omega (arith, ap (λ t. m * t) (div-mul-cancel (p .rate n) (divides-product (p .rate) (p .term) n a b)))
 

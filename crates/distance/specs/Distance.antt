@@ -22,7 +22,8 @@ pub record Within (c : ℕ) (x : Fraction) (h : ℕ) : Type 0 where
 abbrev pub halfPence : ℕ → ℕ → ℕ
 halfPence odd k = 2 * (2 * k - 1) + pick (eqb odd 0) 0 1
 
--- What a monthly contract buys: the odd months of its pension age, from the only or lower table, and from the upper, which no odd months leave unused.
+-- What a monthly contract buys: the odd months of its pension age, the purchase in the only or lower table, and that in the upper, which
+-- counts only with odd months.
 pub record Purchases : Type 0 where
   pub odd : ℕ
   pub lower : Purchase

@@ -1,12 +1,13 @@
 -- What callers use of the refusals, without opening them: refused or not, and what then holds.
 -- Assumes nothing.
 use mathlib.Core.List.{List}
-use mathlib.Core.Path.{_≡_, refl, sym, ap, _∙_}
-use Prim.Native.Nat.{ℕ, _*_, _≤_, _<_}
+use mathlib.Core.Path.{_≡_, refl, sym, _∙_}
+use Prim.Native.Nat.{ℕ, _≤_}
 use native.Mathlib.Decide.{ℕ-discrete}
 use native.Mathlib.Omega.{arith}
 use borrow.Author.Tests.{eq-eqb, ne-eqb}
 use lib.ListN.{length, take}
+use Rattle.common.proofs.Choice.{chosen-number}
 use Rattle.terms.specs.declared.Terms.{Terms}
 use Rattle.terms.specs.Rules.{refusalOf}
 use Rattle.election.specs.Told.{Accepted}
@@ -14,6 +15,7 @@ use Rattle.election.proofs.Laws.{accepted-facts}
 use Rattle.marks.specs.Lawful.{LawfulFor}
 use Rattle.marks.specs.Reading.{marksOf}
 use Rattle.marks.proofs.Term.{marks-counts, marks-lawful, lawful-for-take}
+use Rattle.examination.specs.declared.Examined.{Examined}
 use Rattle.examination.specs.Examine.{settleRefusal, settlePlace, refusedExamined, acceptedExamined, examinedOf}
 
 module _ (t : Terms) (ms : List ℕ) where
@@ -68,8 +70,7 @@ module _ (t : Terms) (ms : List ℕ) where
   examined-accepted h = rw (eq-eqb _ _ h)
 
   pub examined-refusal : examinedOf t ms .refusal ≡ settleRefusal t ms
-  examined-refusal = go (ℕ-discrete (settleRefusal t ms) 0)
-    where
-      go : Dec (settleRefusal t ms ≡ 0) → examinedOf t ms .refusal ≡ settleRefusal t ms
-      go (yes z) = rw (examined-accepted z) (sym z)
-      go (no h) = rw (examined-refused h)
+  unfolding examinedOf
+  examined-refusal =
+      chosen-number (λ (e : Examined). e .refusal) (settleRefusal t ms) (acceptedExamined t ms)
+      (refusedExamined (settleRefusal t ms) (settlePlace t ms)) refl refl

@@ -51,6 +51,7 @@ acceptedExamined t marks =
       upper = upperRatesAt t (t .years + 1);
     }
 
+-- the answer
 unfoldable pub examinedOf : Terms → List ℕ → Examined
 examinedOf t marks =
     pick (eqb (settleRefusal t marks) 0) (acceptedExamined t marks)

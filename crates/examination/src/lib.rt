@@ -11,11 +11,14 @@ pub struct Examined {
     pub place: usize,
     pub contribution: ContributionPence,
     pub status: u32,
+    // paid months
     pub paid: usize,
+    // rates of the only or lower table for the terms 1 to 20, and of the upper; zeros where none is needed
     pub lower: [u32; 20],
     pub upper: [u32; 20],
 }
 
+// A refusal and its place, with nothing to settle by.
 fn refuse(refusal: u32, place: usize) -> Examined
     ensures { λ r. ⌜ r ≡ refusedExamined refusal place ⌝ }
 {

@@ -9,7 +9,7 @@ use lib.ListN.{length, drop}
 use Rattle.terms.specs.declared.Terms.{Terms}
 use Rattle.quotes.specs.Quote.{QuoteNumbers, quoteOf}
 use Rattle.settlement.specs.Settle.{SettleNumbers, settleOf}
-use Rattle.settlement.specs.Told.{SettleBounds}
+use Rattle.settlement.specs.Bounds.{SettleBounds}
 use Rattle.settlement.proofs.Bounds.{settle-bounds}
 use Rattle.number_bytes.specs.Bytes.{lowBytes, eightBytes, inBytes}
 use Rattle.host.specs.Calls.{quoteBytes, settleBytes, hostQuoteOf, hostSettleOf}

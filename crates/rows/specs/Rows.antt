@@ -1,4 +1,5 @@
--- Document 01, "Figures at the edges": the figures marked P. A row holds what the definitions give and what the paper states.
+-- Document 01, "Figures at the edges": the figures marked P, and two more that a misreading would change. A row holds what the
+-- definitions give and what the paper states.
 -- Assumes nothing.
 use mathlib.Core.List.{List, [], _∷_, _++_}
 use Prim.Native.Nat.{ℕ}

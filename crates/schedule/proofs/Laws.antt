@@ -1,35 +1,30 @@
 -- What is held after each mark of the walk is the credit that Settle gives for the marks so far.
 -- Assumes nothing.
-use mathlib.Core.Bool.{Bool, true, false}
-use mathlib.Core.List.{List, []}
-use mathlib.Core.Path.{_≡_, refl, sym, ap, _∙_}
-use Prim.Native.Nat.{ℕ, suc, _+_, _*_, _≤_, _<_, _^_}
-use native.Mathlib.Nat.{mul-le-mul}
+use mathlib.Core.List.{List}
+use mathlib.Core.Path.{_≡_, sym, ap, _∙_}
+use Prim.Native.Nat.{ℕ, suc, _+_, _≤_, _<_, _^_}
 use native.Mathlib.Numerals.{add-one}
 use native.Mathlib.Omega.{arith}
-use borrow.Author.Tests.{ne-eqb}
 use lib.Dec.{eqb}
-use lib.ListN.{length, take, getD, length-take}
+use lib.ListN.{length, take, getD}
 use Rattle.common.specs.Choice.{pick}
 use Rattle.rounding.specs.Nearest.{nearest, combine}
-use Rattle.rounding.proofs.HalfUp.{nearest-within-half}
 use Rattle.rounding.proofs.Laws.{combine-upper}
+use Rattle.money.specs.Limits.{capPence}
 use Rattle.terms.specs.declared.Terms.{Terms}
-use Rattle.status.specs.Status.{statusOf, statusFrom}
-use Rattle.marks.specs.Reading.{marksOf}
+use Rattle.status.specs.Status.{statusOf}
 use Rattle.marks.proofs.Term.{marks-take}
-use Rattle.status.proofs.StatusOf.{status-lawful, monthly-status}
+use Rattle.status.proofs.StatusOf.{status-lawful}
 use Rattle.credit.specs.Credit.{creditOver, creditIn}
 use Rattle.credit.specs.Earned.{nothingYet, creditAt, afterMarks}
-use Rattle.credit.proofs.Bounds.{credit-most}
 use Rattle.credit.proofs.Runs.{one-mark-more, by-runs}
-use Rattle.settlement.specs.Credit.{purchaseIn, creditOf}
+use Rattle.settlement.specs.Credit.{creditOf}
 use Rattle.examination.specs.Examine.{settleRefusal}
 use Rattle.examination.proofs.Laws.{lawful, few, refusal-take}
-use Rattle.settlement.specs.Settle.{SettleNumbers, creditAtStatus}
+use Rattle.settlement.specs.Settle.{SettleNumbers}
 use Rattle.settlement.proofs.Laws.{settle-settled}
-use Rattle.settlement.proofs.Purchases.{credit-combined}
-use Rattle.schedule.specs.declared.Walk.{Walk}
+use Rattle.settlement.proofs.Purchases.{credit-fits, credit-combined}
+use Rattle.settlement.proofs.Demand.{credit-by-status}
 use Rattle.schedule.specs.Schedule.{entryOf}
 use Rattle.schedule.specs.Walk.{walkOf, stepWalk, heldOf, Tables}
 
@@ -47,19 +42,12 @@ module _ (t : Terms) (marks lower upper : List ℕ) (tables : Tables t marks low
         one-mark-more nearest upper nothingYet marks i h,
       )
 
-  few-so-far : (i : ℕ) → length (take i marks) ≤ 240
-  few-so-far i = omega (arith, length-take i marks, few t marks none)
-
-  -- each table's credit so far fits, and is that of the runs so far
-  fits : (years : List ℕ) → ((n : ℕ) → getD years n 0 ≤ 650000) → (i : ℕ)
+  -- each table's credit so far fits 32 bits
+  fits : (years : List ℕ) → ((n : ℕ) → getD years n 0 ≤ capPence) → (i : ℕ)
       → creditAt nearest years (afterMarks nearest years nothingYet (take i marks)) < 2 ^ 32
   fits years most i =
       rw (by-runs nearest years (take i marks))
-      (omega (
-        arith,
-        credit-most nearest nearest-within-half years 650000 most (take i marks),
-        mul-le-mul {n₁ = length (take i marks)} {m₁ = 650000} {n₂ = 240} {m₂ = 650000} (few-so-far i) (omega arith),
-      ))
+      (credit-fits years (take i marks) (few t (take i marks) (refusal-take t marks none i)) most)
 
   pub lower-fits : (i : ℕ) → creditAt nearest lower (afterMarks nearest lower nothingYet (take i marks)) < 2 ^ 32
   lower-fits = fits lower (tables .lower-most)
@@ -78,18 +66,13 @@ module _ (t : Terms) (marks lower upper : List ℕ) (tables : Tables t marks low
       (rw (tables .lower-is)
       (combine-upper (t .months) _ _ _ (λ odd. ap (λ (y : List ℕ). creditOver nearest y (take i marks)) (tables .upper-is odd))))
 
-  -- a monthly contract's credit by its status
-  by-status : (ms : List ℕ) → creditAtStatus t ms (statusOf (t .term) ms) ≡ pick (eqb (statusOf (t .term) ms) 5) 0 (creditOf t ms)
-  unfolding creditAtStatus
-  by-status ms = rw (ne-eqb (statusOf (t .term) ms) 6 (λ z. omega (arith, monthly-status (t .term) ms (tables .monthly))))
-
   -- the entry, by the status after the marks so far
   entry-is : (i : ℕ) → entryOf t marks i
       ≡ pick (eqb (statusOf (t .term) (take (suc i) marks)) 5) 0 (creditOf t (take (suc i) marks))
   unfolding entryOf
   entry-is i =
       ap (λ (n : SettleNumbers). n .credit) (settle-settled t (take (suc i) marks) (refusal-take t marks none (suc i)))
-      ∙ by-status (take (suc i) marks)
+      ∙ credit-by-status t (take (suc i) marks) (tables .monthly)
 
   pub entry-held : (i : ℕ) → heldOf t (walkOf t lower upper (take (i + 1) marks)) lower upper ≡ entryOf t marks i
   unfolding heldOf

@@ -2,16 +2,17 @@
 -- Assumes nothing.
 use mathlib.Core.List.{List}
 use mathlib.Core.Path.{_≡_}
-use Prim.Native.Nat.{ℕ, _+_, _*_, _/_, _≤_, _<_, _^_}
+use Prim.Native.Nat.{ℕ, _+_, _*_, _≤_, _<_, _^_}
 use lib.Dec.{eqb}
 use lib.ListN.{getD}
 use Rattle.common.specs.Choice.{pick}
 use Rattle.rounding.specs.Nearest.{nearest, combine}
 use Rattle.rates.specs.Rates.{rowOf}
 use Rattle.terms.specs.declared.Terms.{Terms}
+use Rattle.election.specs.Told.{Accepted}
 use Rattle.status.specs.Status.{statusFrom}
 use Rattle.marks.specs.Reading.{oneMore, stepBy, marksOf}
-use Rattle.money.specs.Limits.{unit, capPence}
+use Rattle.money.specs.Limits.{capPence}
 use Rattle.years.specs.Years.{yearCredits}
 use Rattle.credit.specs.Earned.{nothingYet, creditAt, afterMark, afterMarks, EarnedWithin}
 use Rattle.settlement.specs.Credit.{purchaseIn}
@@ -43,7 +44,7 @@ pub record WalkWithin (w : Walk) (i : ℕ) : Type 0 where
   pub upper-month : w .upper .month ≡ i
   pub upper-small : w .upper .sum .0 ≤ i * 2 ^ 32
 
--- of `walk_on`
+-- what `walk_on` promises: one mark more, within the bounds
 pub record WalkTold (w : Walk) (lower upper : List ℕ) (mark i : ℕ) (r : Walk) : Type 0 where
   pub is : r ≡ stepWalk w lower upper mark
   pub within : WalkWithin r (i + 1)
@@ -70,7 +71,15 @@ pub record Tables (t : Terms) (marks lower upper : List ℕ) : Type 0 where
   pub lower-most : (n : ℕ) → getD lower n 0 ≤ capPence
   pub upper-most : (n : ℕ) → getD upper n 0 ≤ capPence
 
--- of `upper_years`: the upper table's whole-year credits with odd months
+-- what `upper_years` asks: accepted terms of a monthly contract, with odd months the upper table's row, and no year of the only table
+-- above the cap
+pub record UpperAsked (t : Terms) (upper only : List ℕ) : Type 0 where
+  pub accepted : Accepted t 0
+  pub some-years : 0 < t .term
+  pub upper-is : (t .months ≡ 0 → ⊥) → upper ≡ rowOf (t .option) (t .years + 1) (t .age)
+  pub only-most : (n : ℕ) → getD only n 0 ≤ capPence
+
+-- what `upper_years` promises: the upper table's whole-year credits with odd months
 pub record UpperYears (t : Terms) (r : List ℕ) : Type 0 where
   pub is : (t .months ≡ 0 → ⊥) → r ≡ yearCredits nearest (purchaseIn t (t .years + 1))
   pub most : (n : ℕ) → getD r n 0 ≤ capPence

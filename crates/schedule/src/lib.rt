@@ -1,12 +1,10 @@
 // A credit for each elapsed month: what a member held after it.
 ghost use mathlib.Core.Path.{_≡_};
-ghost use Prim.Native.Nat.{ℕ, _≤_, _<_, _^_};
-ghost use lib.ListN.{length, getD};
-ghost use Rattle.money.specs.Limits.{capPence};
+ghost use Prim.Native.Nat.{_≤_, _<_, _^_};
+ghost use lib.ListN.{length};
 ghost use Rattle.money.specs.Money.{pension};
-ghost use Rattle.examination.specs.Examine.{Monthly};
 ghost use Rattle.schedule.specs.Schedule.{filledOf, numbersOf, scheduleOf};
-ghost use Rattle.schedule.specs.Walk.{WalkWithin, WalkTold, heldOf, Holdable, Tables, UpperYears};
+ghost use Rattle.schedule.specs.Walk.{WalkWithin, WalkTold, heldOf, Holdable, Tables, UpperAsked, UpperYears};
 use credit::Earned;
 use marks::Reading;
 use money::PensionPence;
@@ -81,9 +79,8 @@ fn fill(t: Terms, lower: [u32; 21], upper: [u32; 21], marks: &[u8], out: &mut [u
 }
 
 // The upper table's whole-year credits; at a whole pension age they are not looked at, and the only table's stand in for them.
-fn upper_years(t: Terms, lower: [u32; 20], upper: [u32; 20], only: [u32; 21]) -> [u32; 21]
-    requires { ⌜ Monthly t lower upper ⌝ }
-    requires { ⌜ ((n : ℕ) → getD only n 0 ≤ capPence) ⌝ }
+fn upper_years(t: Terms, upper: [u32; 20], only: [u32; 21]) -> [u32; 21]
+    requires { ⌜ UpperAsked t upper only ⌝ }
     ensures { λ r. ⌜ UpperYears t r ⌝ }
 {
     if t.months == 0 {
@@ -109,6 +106,7 @@ pub fn schedule(t: Terms, marks: &[u8], out: &mut [u32]) -> Scheduled
             place: 0,
         };
     }
+    // Nothing to write. A contract with a mark is monthly, so from here on it has rates.
     if marks.len() == 0 {
         return Scheduled {
             refusal: 0,
@@ -118,7 +116,7 @@ pub fn schedule(t: Terms, marks: &[u8], out: &mut [u32]) -> Scheduled
     let lower = e.lower;
     let upper = e.upper;
     let only = years::year_credits(lower, t.amount / money::STEP, t.term);
-    let other = upper_years(t, lower, upper, only);
+    let other = upper_years(t, upper, only);
     fill(t, only, other, marks, out);
     Scheduled {
         refusal: 0,

@@ -3,8 +3,8 @@
 use mathlib.Core.Bool.{Bool, true, false}
 use mathlib.Core.List.{List}
 use mathlib.Core.Logic.{⊎-elim}
-use mathlib.Core.Path.{_≡_, refl, sym, ap, _∙_}
-use Prim.Native.Nat.{ℕ, _+_, _*_, _≤_, _<_}
+use mathlib.Core.Path.{_≡_, refl}
+use Prim.Native.Nat.{ℕ, _*_, _≤_}
 use native.Mathlib.Decide.{ℕ-discrete, decLe}
 use native.Mathlib.Nat.{mul-le-mul}
 use native.Mathlib.Omega.{arith}
@@ -26,7 +26,7 @@ use Rattle.examination.specs.Examine.{settleRefusal, settlePlace}
 use Rattle.examination.proofs.Laws.{refused-by-terms, place-by-terms, refused-by-marks, place-by-marks, accepted, lawful}
 use Rattle.settlement.specs.Credit.{creditOf}
 use Rattle.settlement.specs.Settle.{creditAtStatus, refundAtStatus, settleOf}
-use Rattle.settlement.specs.Told.{SettleBounds}
+use Rattle.settlement.specs.Bounds.{SettleBounds}
 use Rattle.settlement.proofs.Laws.{settle-refused, settle-settled}
 use Rattle.settlement.proofs.Demand.{worked-most}
 

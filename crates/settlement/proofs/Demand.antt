@@ -1,24 +1,26 @@
--- Demand 3 of every settlement; that a credit never passes the amount, and that a term paid in full earns just the amount.
+-- Demand 3 of every settlement; that the runs never earn more than the amount, and that a term paid in full earns just the amount.
 -- Assumes nothing.
 use mathlib.Core.Bool.{Bool, true, false}
 use mathlib.Core.List.{List, [], _∷_, _++_}
 use mathlib.Core.Logic.{⊎-elim}
-use mathlib.Core.Path.{_≡_, refl, sym, ap, subst, _∙_}
-use Prim.Native.Nat.{ℕ, suc, _+_, _*_, _/_, _≤_, _<_}
-use native.Mathlib.Nat.{le-trans}
+use mathlib.Core.Path.{_≡_, refl, sym, ap, _∙_}
+use Prim.Native.Nat.{ℕ, _*_, _≤_, _<_}
 use native.Mathlib.Omega.{arith}
-use borrow.Author.Tests.{eq-eqb, ne-eqb}
+use borrow.Author.Tests.{ne-eqb}
 use lib.Dec.{eqb}
-use lib.ListN.{length, replicate}
+use lib.ListN.{replicate}
+use Rattle.common.specs.Choice.{pick}
 use Rattle.rounding.specs.Nearest.{nearest}
 use Rattle.rounding.proofs.HalfUp.{nearest-within-half, nearest-monotone}
 use Rattle.terms.specs.declared.Terms.{Terms}
-use Rattle.marks.specs.Lawful.{Lawful, LawfulFor}
+use Rattle.terms.specs.Rules.{refusalOf}
+use Rattle.election.proofs.Laws.{accepted-facts}
+use Rattle.marks.specs.Lawful.{Lawful}
 use Rattle.status.specs.Status.{statusOf}
 use Rattle.status.proofs.StatusOf.{monthly-status}
 use Rattle.credit.specs.Runs.{paid, startsAfter, runCount}
 use Rattle.distance.proofs.Distance.{distance}
-use Rattle.distance.proofs.Amount.{credit-most, full-term}
+use Rattle.distance.proofs.Amount.{contract-most, full-term}
 use Rattle.examination.specs.Examine.{settleRefusal}
 use Rattle.examination.proofs.Laws.{accepted, lawful}
 use Rattle.settlement.specs.Credit.{purchasesOf, creditOf, exactCreditOf}
@@ -36,7 +38,7 @@ none-after (m ∷ ms) h =
     (none-after ms (λ ys zs n e. h (m ∷ ys) zs n (ap (λ (l : List ℕ). m ∷ l) e)))
 
 -- lawful marks with a paid one begin with a paid one
-pub first-paid : (ms : List ℕ) → Lawful ms → 1 ≤ runCount ms → (rest : List Bool) × (paid ms ≡ true ∷ rest)
+first-paid : (ms : List ℕ) → Lawful ms → 1 ≤ runCount ms → (rest : List Bool) × (paid ms ≡ true ∷ rest)
 unfolding runCount startsAfter
 first-paid [] law k = absurd (omega arith)
 first-paid (m ∷ ms) law k =
@@ -47,12 +49,16 @@ first-paid (m ∷ ms) law k =
     ended : m ≡ 2 → startsAfter false (paid (m ∷ ms)) ≡ 0
     ended two = rw two (none-after ms (λ ys zs n e. law .ends [] ys zs n (rw two (ap (λ (l : List ℕ). 2 ∷ l) e))))
 
--- at a monthly contract's status other than 5 the credit is what the runs earned
+-- a monthly contract's credit by its status: nothing when refunded, else what the runs earned
+pub credit-by-status : (t : Terms) (ms : List ℕ) → 0 < t .term
+    → creditAtStatus t ms (statusOf (t .term) ms) ≡ pick (eqb (statusOf (t .term) ms) 5) 0 (creditOf t ms)
+unfolding creditAtStatus
+credit-by-status t ms monthly = rw (ne-eqb (statusOf (t .term) ms) 6 (λ z. omega (arith, monthly-status (t .term) ms monthly)))
+
+-- at a status other than 5 it is what the runs earned
 pub credit-worked : (t : Terms) (ms : List ℕ) → 0 < t .term → (statusOf (t .term) ms ≡ 5 → ⊥)
     → creditAtStatus t ms (statusOf (t .term) ms) ≡ creditOf t ms
-unfolding creditAtStatus
-credit-worked t ms monthly other =
-    rw (ne-eqb _ 5 other, ne-eqb (statusOf (t .term) ms) 6 (λ z. omega (arith, monthly-status (t .term) ms monthly)))
+credit-worked t ms monthly other = credit-by-status t ms monthly ∙ rw (ne-eqb (statusOf (t .term) ms) 5 other)
 
 pub demand-3 : (t : Terms) (ms : List ℕ) → Demand3 t ms (settleOf t ms)
 unfolding creditOf exactCreditOf
@@ -71,16 +77,15 @@ worked-most t ms none monthly =
     let a = accepted t ms none in
     omega (
       arith,
-      credit-most nearest nearest-within-half nearest-monotone (purchasesOf t) (sound t a monthly) ms (lawful t ms none .few),
+      contract-most nearest nearest-within-half nearest-monotone (purchasesOf t) (sound t a monthly) ms (lawful t ms none .few),
       a .whole,
     )
 
 -- twelve paid months in each year of the term earn the amount exactly
-pub full-credit : (t : Terms) (ms : List ℕ) → settleRefusal t ms ≡ 0 → 0 < t .term
-    → creditOf t (replicate (12 * t .term) 1) ≡ t .amount * 100
+pub full-credit : (t : Terms) → refusalOf t 0 ≡ 0 → 0 < t .term → creditOf t (replicate (12 * t .term) 1) ≡ t .amount * 100
 unfolding creditOf
-full-credit t ms none monthly =
-    let a = accepted t ms none in
+full-credit t pass monthly =
+    let a = accepted-facts t 0 pass in
     omega (
       arith,
       full-term nearest nearest-within-half (purchasesOf t) (sound t a monthly) monthly,

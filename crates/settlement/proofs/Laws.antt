@@ -1,13 +1,13 @@
 -- The two outcomes of a settlement, for callers that do not open it.
 -- Assumes nothing.
 use mathlib.Core.List.{List}
-use mathlib.Core.Path.{_≡_, sym}
+use mathlib.Core.Path.{_≡_, refl}
 use Prim.Native.Nat.{ℕ}
-use native.Mathlib.Decide.{ℕ-discrete}
 use borrow.Author.Tests.{eq-eqb, ne-eqb}
+use Rattle.common.proofs.Choice.{chosen-number}
 use Rattle.terms.specs.declared.Terms.{Terms}
 use Rattle.examination.specs.Examine.{settleRefusal, settlePlace}
-use Rattle.settlement.specs.Settle.{refusedNumbers, settledNumbers, settleOf}
+use Rattle.settlement.specs.Settle.{SettleNumbers, refusedNumbers, settledNumbers, settleOf}
 
 module _ (t : Terms) (ms : List ℕ) where
   pub settle-refused : (settleRefusal t ms ≡ 0 → ⊥) → settleOf t ms ≡ refusedNumbers (settleRefusal t ms) (settlePlace t ms)
@@ -19,8 +19,7 @@ module _ (t : Terms) (ms : List ℕ) where
   settle-settled h = rw (eq-eqb _ _ h)
 
   pub settle-refusal : settleOf t ms .refusal ≡ settleRefusal t ms
-  settle-refusal = go (ℕ-discrete (settleRefusal t ms) 0)
-    where
-      go : Dec (settleRefusal t ms ≡ 0) → settleOf t ms .refusal ≡ settleRefusal t ms
-      go (yes z) = rw (settle-settled z) (sym z)
-      go (no h) = rw (settle-refused h)
+  unfolding settleOf
+  settle-refusal =
+      chosen-number (λ (n : SettleNumbers). n .refusal) (settleRefusal t ms) (settledNumbers t ms)
+      (refusedNumbers (settleRefusal t ms) (settlePlace t ms)) refl refl

@@ -1,4 +1,4 @@
 pub mod Credit
 pub mod Settle
 pub mod Demand
-pub mod Told
+pub mod Bounds

@@ -47,6 +47,7 @@ settledNumbers t marks =
       refund = refundAtStatus t marks (statusOf (t .term) marks);
     }
 
+-- Settle: the first refusal and its place, or the settlement
 unfoldable pub settleOf : Terms → List ℕ → SettleNumbers
 settleOf t marks =
     pick (eqb (settleRefusal t marks) 0) (settledNumbers t marks)

@@ -13,6 +13,7 @@ use money::ContributionPence;
 use money::PensionPence;
 use terms::Terms;
 
+// The answer: a refusal, or what the member holds.
 pub enum Settlement {
     // the refusal, and the index of a bad mark
     Refused {
@@ -43,7 +44,7 @@ fn earned(t: Terms, lower: [u32; 20], upper: [u32; 20], marks: &[u8]) -> Pension
 }
 
 // The credit at a status: nothing when refunded, a lump sum in full.
-fn credit_at(
+fn credit_at_status(
     t: Terms,
     lower: [u32; 20],
     upper: [u32; 20],
@@ -64,7 +65,7 @@ fn credit_at(
 }
 
 // The refund at a status: the paid months' contributions when refunded.
-fn refund_at(own: ContributionPence, status: u32, paid: usize) -> ContributionPence
+fn refund_at_status(own: ContributionPence, status: u32, paid: usize) -> ContributionPence
     requires { ⌜ (own .0 < 2 ^ 32) × (paid ≤ 240) ⌝ }
     ensures { λ r. ⌜ r ≡ contribution (pick (eqb status 5) (own .0 * paid) 0) ⌝ }
 {
@@ -89,8 +90,8 @@ pub fn settle(t: Terms, marks: &[u8]) -> Settlement
     let contribution = e.contribution;
     let lower = e.lower;
     let upper = e.upper;
-    let credit = credit_at(t, lower, upper, e.status, marks);
-    let refund = refund_at(contribution, e.status, e.paid);
+    let credit = credit_at_status(t, lower, upper, e.status, marks);
+    let refund = refund_at_status(contribution, e.status, e.paid);
     Settlement::Settled {
         contribution,
         status: e.status,

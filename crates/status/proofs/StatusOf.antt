@@ -1,6 +1,7 @@
--- The status from the reading of lawful marks is the status of the marks.
+-- The status from the reading of lawful marks is the status of the marks; and what a status tells: its range, b of a refunded contract,
+-- that only a lump sum has 6.
 -- Assumes nothing.
-use mathlib.Core.Bool.{Bool, true, false, _&&_}
+use mathlib.Core.Bool.{Bool, _&&_}
 use mathlib.Core.List.{List}
 use mathlib.Core.Path.{_≡_, refl, sym}
 use Prim.Native.Nat.{ℕ, zero, suc, _*_, _≤_, _<_}
@@ -13,6 +14,7 @@ use Rattle.marks.specs.Counts.{lastOr, allPaid, paidThrough, finalGap}
 use Rattle.marks.specs.Lawful.{LawfulFor}
 use Rattle.status.specs.Status.{stoppedOf, statusOf, statusFrom}
 use Rattle.marks.specs.Reading.{marksOf}
+use Rattle.common.proofs.Choice.{either, not-first}
 use Rattle.common.proofs.Tests.{by-test}
 use Rattle.marks.proofs.Counts.{all-paid}
 use Rattle.marks.proofs.Term.{marks-counts}
@@ -38,39 +40,45 @@ status-lawful term ms h =
     rw (marks-counts term ms h, t, lt-ltb count months running, ne-eqb count months (λ p. omega arith))
     (rw (open-gap (finalGap ms) (stoppedOf (paidThrough ms)))))
 
--- a chain of tests gives none but its own numbers
-either-most : (k : ℕ) (b : Bool) (n rest : ℕ) → n ≤ k → rest ≤ k → pick b n rest ≤ k
-either-most k true n rest p q = p
-either-most k false n rest p q = q
+module _ (term : ℕ) (ms : List ℕ) where
+  -- the tests of `statusOf` after the first, by the status that each gives
+  abbrev test0 : Bool
+  test0 = eqb (length ms) 0
 
-not-here : (b : Bool) (n k rest : ℕ) → (n ≡ k → ⊥) → pick b n rest ≡ k → rest ≡ k
-not-here true n k rest h e = absurd (h e)
-not-here false n k rest h e = e
+  abbrev test1 : Bool
+  test1 = ltb (length ms) (12 * term) && eqb (lastOr 0 ms) 1
 
--- the statuses of a monthly contract are 0 to 5
-pub monthly-status : (term : ℕ) (ms : List ℕ) → 0 < term → statusOf term ms ≤ 5
-unfolding statusOf stoppedOf
-monthly-status term ms h =
-    rw (ne-eqb term 0 (λ z. omega arith))
-    (either-most 5 (eqb (length ms) 0) 0 _ (omega arith)
-    (either-most 5 (ltb (length ms) (12 * term) && eqb (lastOr 0 ms) 1) 1 _ (omega arith)
-    (either-most 5 (ltb (length ms) (12 * term) && (leb 1 (finalGap ms) && leb (finalGap ms) 11)) 2 _ (omega arith)
-    (either-most 5 (eqb (length ms) (12 * term) && allPaid ms) 3 _ (omega arith)
-    (either-most 5 (leb 12 (paidThrough ms)) 4 5 (omega arith) (omega arith))))))
+  abbrev test2 : Bool
+  test2 = ltb (length ms) (12 * term) && (leb 1 (finalGap ms) && leb (finalGap ms) 11)
 
--- a refunded contract was paid for less than a year
-pub refunded-early : (term : ℕ) (ms : List ℕ) → statusOf term ms ≡ 5 → paidThrough ms < 12
-unfolding statusOf stoppedOf
-refunded-early term ms e =
-    let after6 = not-here (eqb term 0) 6 5 _ (λ z. omega arith) e in
-    let after0 = not-here (eqb (length ms) 0) 0 5 _ (λ z. omega arith) after6 in
-    let after1 = not-here (ltb (length ms) (12 * term) && eqb (lastOr 0 ms) 1) 1 5 _ (λ z. omega arith) after0 in
-    let after2 = not-here (ltb (length ms) (12 * term) && (leb 1 (finalGap ms) && leb (finalGap ms) 11)) 2 5 _ (λ z. omega arith) after1 in
-    let after3 = not-here (eqb (length ms) (12 * term) && allPaid ms) 3 5 _ (λ z. omega arith) after2 in
-    by-test (leb 12 (paidThrough ms)) (λ t. absurd (ceased t after3)) (λ t. leb-false 12 (paidThrough ms) t)
-  where
-    ceased : leb 12 (paidThrough ms) ≡ true → _≡_ {A = ℕ} (pick (leb 12 (paidThrough ms)) 4 5) 5 → ⊥
-    ceased t q = let z : _≡_ {A = ℕ} 4 5 = rw t at q in omega arith
+  abbrev test3 : Bool
+  test3 = eqb (length ms) (12 * term) && allPaid ms
+
+  abbrev test4 : Bool
+  test4 = leb 12 (paidThrough ms)
+
+  -- the statuses of a monthly contract are 0 to 5
+  pub monthly-status : 0 < term → statusOf term ms ≤ 5
+  unfolding statusOf stoppedOf
+  monthly-status h =
+      rw (ne-eqb term 0 (λ z. omega arith))
+      (either (λ (n : ℕ). n ≤ 5) test0 {x = 0} (omega arith)
+      (either (λ (n : ℕ). n ≤ 5) test1 {x = 1} (omega arith)
+      (either (λ (n : ℕ). n ≤ 5) test2 {x = 2} (omega arith)
+      (either (λ (n : ℕ). n ≤ 5) test3 {x = 3} (omega arith)
+      (either (λ (n : ℕ). n ≤ 5) test4 {x = 4} {y = 5} (omega arith) (omega arith))))))
+
+  -- a refunded contract was paid for less than a year
+  pub refunded-early : statusOf term ms ≡ 5 → paidThrough ms < 12
+  unfolding statusOf stoppedOf
+  refunded-early e =
+      let after6 = not-first (λ (n : ℕ). n ≡ 5) (eqb term 0) 6 _ (λ z. omega arith) e in
+      let after0 = not-first (λ (n : ℕ). n ≡ 5) test0 0 _ (λ z. omega arith) (after6 .1) in
+      let after1 = not-first (λ (n : ℕ). n ≡ 5) test1 1 _ (λ z. omega arith) (after0 .1) in
+      let after2 = not-first (λ (n : ℕ). n ≡ 5) test2 2 _ (λ z. omega arith) (after1 .1) in
+      let after3 = not-first (λ (n : ℕ). n ≡ 5) test3 3 _ (λ z. omega arith) (after2 .1) in
+      let after4 = not-first (λ (n : ℕ). n ≡ 5) test4 4 5 (λ z. omega arith) (after3 .1) in
+      leb-false 12 (paidThrough ms) (after4 .0)
 
 -- only a lump sum has status 6
 pub not-lump : (term : ℕ) (ms : List ℕ) → (statusOf term ms ≡ 6 → ⊥) → 0 < term

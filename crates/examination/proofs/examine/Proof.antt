@@ -1,23 +1,20 @@
 -- `examination::examine` meets its contract: the terms' refusal, then the marks', then what both say.
 -- Assumes nothing.
 use mathlib.Core.List.{List}
-use mathlib.Core.Path.{_≡_, refl, sym, ap, subst, _∙_}
-use Prim.Native.Nat.{ℕ, _+_}
+use mathlib.Core.Path.{_≡_, sym, ap, _∙_}
+use Prim.Native.Nat.{ℕ}
 use borrow.Author.Needs.{needs}
-use Rattle.election.proofs.Laws.{priced-refusal, priced-accepted}
-use Rattle.election.specs.Price.{contributionOf, accepted, pricedOf}
-use Rattle.terms.specs.Rate.{ratesAt, upperRatesAt}
+use Rattle.election.proofs.Laws.{priced-accepted, priced-told}
+use Rattle.election.specs.Price.{pricedOf}
 use Rattle.terms.specs.Rules.{refusalOf}
 use Rattle.election.specs.declared.Priced.{Priced}
 use Rattle.terms.specs.declared.Terms.{Terms}
 use Rattle.status.proofs.StatusOf.{status-lawful}
 use Rattle.marks.proofs.Term.{marks-counts, marks-lawful}
-use Rattle.marks.specs.Counts.{paidMonths}
 use Rattle.marks.specs.Reading.{marksOf}
-use Rattle.status.specs.Status.{statusOf, statusFrom}
+use Rattle.status.specs.Status.{statusFrom}
 use Rattle.marks.specs.declared.Reading.{Reading}
-use Rattle.money.specs.Money.{pension, contribution}
-use Rattle.money.specs.declared.ContributionPence.{ContributionPence}
+use Rattle.money.specs.Money.{pension}
 use Rattle.money.specs.declared.PensionPence.{PensionPence}
 use Rattle.examination.proofs.Laws.{refused-by-terms, place-by-terms, refused-by-marks, place-by-marks, examined-refused, examined-accepted}
 use Rattle.examination.specs.Examine.{settleRefusal, refusedExamined, examinedOf}
@@ -28,15 +25,12 @@ use Rattle.examination.proofs.examine.Tie as tie
 told-price : (t : Terms) {p : Priced} {nothing : PensionPence} → p ≡ pricedOf t (nothing .0) → nothing ≡ pension 0 → p ≡ pricedOf t 0
 told-price t e z = e ∙ ap (λ (n : PensionPence). pricedOf t (n .0)) z
 
-refusal-is : (t : Terms) {p : Priced} → p ≡ pricedOf t 0 → p .refusal ≡ refusalOf t 0
-refusal-is t e = ap (λ (p : Priced). p .refusal) e ∙ priced-refusal t 0
-
 refusal-zero : (t : Terms) {p : Priced} → p ≡ pricedOf t 0 → p .refusal ≡ 0 → refusalOf t 0 ≡ 0
-refusal-zero t e z = sym (refusal-is t e) ∙ z
+refusal-zero t e z = sym (priced-told t 0 e) ∙ z
 
 by-terms : (t : Terms) (ms : List ℕ) {p : Priced} → p ≡ pricedOf t 0 → (p .refusal ≡ 0 → ⊥) → refusedExamined (p .refusal) 0 ≡ examinedOf t ms
 by-terms t ms e some =
-    let is = refusal-is t e in
+    let is = priced-told t 0 e in
     let refuses : refusalOf t 0 ≡ 0 → ⊥ = λ z. some (is ∙ z) in
     rw (is, examined-refused t ms (λ z. refuses (sym (refused-by-terms t ms refuses) ∙ z)), refused-by-terms t ms refuses, place-by-terms t ms refuses)
 

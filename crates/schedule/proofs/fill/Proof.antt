@@ -1,11 +1,10 @@
 -- `schedule::fill` meets its contract. After i marks the walk is that of the first i marks, and i entries are written.
 -- Assumes nothing.
 use mathlib.Core.List.{List}
-use mathlib.Core.Path.{_≡_, refl, sym, ap, subst, _∙_}
-use Prim.Native.Nat.{ℕ, suc, _+_, _*_, _-_, _≤_, _<_, _^_}
+use mathlib.Core.Path.{_≡_, refl, subst, _∙_}
+use Prim.Native.Nat.{ℕ, suc, _+_, _-_, _≤_, _<_}
 use native.Mathlib.Omega.{arith}
-use lib.ListN.{length, take, getD, set}
-use lib.Seq.{take-length}
+use lib.ListN.{length, take, getD}
 use borrow.Author.Needs.{needs}
 use Rattle.common.proofs.Written.{Written, written-none, written-more, written-list}
 use Rattle.credit.specs.Earned.{nothingYet, afterMarks}
@@ -14,6 +13,7 @@ use Rattle.terms.specs.declared.Terms.{Terms}
 use Rattle.marks.proofs.Term.{not-too-many}
 use Rattle.marks.specs.Reading.{startOf, readOn}
 use Rattle.marks.specs.declared.Reading.{Reading}
+use Rattle.money.specs.Limits.{capPence}
 use Rattle.money.specs.Money.{pension}
 use Rattle.money.specs.declared.PensionPence.{PensionPence}
 use Rattle.schedule.proofs.Laws.{walk-more, lower-fits, upper-fits, entry-held}
@@ -22,7 +22,6 @@ use Rattle.schedule.specs.Walk.{walkOf, WalkWithin, WalkTold, heldOf, Ho
 use Rattle.schedule.specs.declared.Walk.{Walk}
 use Rattle.settlement.proofs.Bounds.{settle-bounds}
 use Rattle.examination.proofs.Laws.{few}
-use Rattle.settlement.specs.Settle.{settleOf}
 use Rattle.schedule.proofs.fill.Statement.{statement}
 use Rattle.schedule.proofs.fill.Tie as tie
 
@@ -66,7 +65,7 @@ module _ (t : Terms) (marks lower upper : List ℕ) (tables : Tables t marks low
       → WalkTold w lower upper (getD marks i 0) i r → k ≡ pension (heldOf t r lower upper) → k .0 ≡ entryOf t marks i
   entry i h e told k = rw (k, next i h e told) (entry-held t marks lower upper tables i)
 
-entry-small : (t : Terms) (marks : List ℕ) (i : ℕ) → entryOf t marks i ≤ 650000
+entry-small : (t : Terms) (marks : List ℕ) (i : ℕ) → entryOf t marks i ≤ capPence
 unfolding entryOf
 entry-small t marks i = settle-bounds t (take (suc i) marks) .credit-most
 

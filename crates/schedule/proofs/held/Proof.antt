@@ -1,9 +1,8 @@
 -- `schedule::held` meets its contract: nothing when refunded, else both tables' credits combined.
 -- Assumes nothing.
-use mathlib.Core.Path.{_≡_, refl, sym, ap, subst, _∙_}
+use mathlib.Core.Path.{sym, _∙_}
 use borrow.Author.Needs.{needs}
 use borrow.Author.Tests.{eq-eqb, ne-eqb}
-use Rattle.money.specs.Money.{pension}
 use Rattle.rounding.proofs.Laws.{combine-none}
 use Rattle.schedule.specs.Walk.{heldOf}
 use Rattle.schedule.proofs.held.Statement.{statement}

@@ -1,20 +1,19 @@
 -- `schedule::schedule` meets its contract: Settle's refusal, then a short list, then the entries.
 -- Assumes nothing.
-use mathlib.Core.List.{List, []}
-use mathlib.Core.Path.{_≡_, refl, sym, ap, subst, _∙_}
-use Prim.Native.Nat.{ℕ, _+_, _*_, _/_, _≤_, _<_}
+use mathlib.Core.List.{List}
+use mathlib.Core.Path.{_≡_, ap, _∙_}
+use Prim.Native.Nat.{ℕ, _≤_, _<_}
 use native.Mathlib.Omega.{arith}
-use lib.ListN.{length, getD}
+use lib.ListN.{length}
 use borrow.Author.Needs.{needs}
 use borrow.Author.Tests.{eq-eqb, ne-eqb, lt-ltb, le-ltb}
 use Rattle.common.specs.Table.{tabulate}
 use Rattle.terms.specs.declared.Terms.{Terms}
 use Rattle.schedule.specs.Schedule.{ScheduleNumbers, filledOf, scheduleOf}
-use Rattle.schedule.specs.Walk.{Tables}
-use Rattle.settlement.proofs.Purchases.{lower-priced, years-of}
+use Rattle.settlement.proofs.Purchases.{lower-sound, years-of}
 use Rattle.examination.proofs.Examination.{examined-told, examined-none, examined-monthly}
-use Rattle.examination.proofs.Laws.{lawful, accepted, examined-refused}
-use Rattle.examination.specs.Examine.{settleRefusal, settlePlace, examinedOf, Monthly}
+use Rattle.examination.proofs.Laws.{lawful, examined-refused}
+use Rattle.examination.specs.Examine.{settleRefusal, examinedOf, Monthly}
 use Rattle.examination.specs.declared.Examined.{Examined}
 use Rattle.schedule.proofs.schedule.Statement.{statement}
 use Rattle.schedule.proofs.schedule.Tie as tie
@@ -70,12 +69,17 @@ returns-3 c =
 year-credits-requires : tie.Need-year-credits-requires
 year-credits-requires c κs =
     let m = monthly-terms _ _ (c .before .before .before .before .before .before .before .examine .ensures) (c .before .before .before .before .before .if1 .left) (c .before .before .before .if3 .left) in
-    lower-priced _ (m .accepted) (m .some-years) (m .lower-is)
+    lower-sound _ (m .accepted) (m .some-years) (m .lower-is)
 
 upper-years-requires : tie.Need-upper-years-requires
 upper-years-requires c κs =
     let m = monthly-terms _ _ (c .before .before .before .before .before .before .before .before .examine .ensures) (c .before .before .before .before .before .before .if1 .left) (c .before .before .before .before .if3 .left) in
-    (m, λ n. omega (arith, c .year-credits .ensures .1 n, m .accepted .under-cap))
+    record {
+      accepted = m .accepted;
+      some-years = m .some-years;
+      upper-is = m .upper-is;
+      only-most = λ n. omega (arith, c .year-credits .ensures .1 n, m .accepted .under-cap);
+    }
 
 fill-requires : tie.Need-fill-requires
 fill-requires c κs =

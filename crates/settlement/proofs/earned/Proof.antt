@@ -1,46 +1,37 @@
 -- `settlement::earned` meets its contract: each table's credit is worked out of its own row, then both are combined.
 -- Assumes nothing.
 use mathlib.Core.List.{List}
-use mathlib.Core.Path.{_≡_, refl, sym, ap, subst, _∙_}
+use mathlib.Core.Path.{_≡_, sym, ap, _∙_}
 use Prim.Native.Nat.{ℕ, _+_, _*_, _/_, _≤_, _<_, _^_}
-use native.Mathlib.Nat.{mul-le-mul}
 use native.Mathlib.Omega.{arith}
 use lib.ListN.{length, getD}
 use borrow.Author.Needs.{needs}
-use Rattle.credit.proofs.Bounds.{credit-most}
 use Rattle.credit.specs.Credit.{creditOver, creditIn}
 use Rattle.years.specs.SoundRates.{purchase}
 use Rattle.years.specs.Years.{yearCredits}
-use Rattle.money.specs.Limits.{unit}
+use Rattle.money.specs.Limits.{stepPounds, unit}
 use Rattle.election.specs.Told.{Accepted}
 use Rattle.terms.specs.declared.Terms.{Terms}
 use Rattle.money.specs.Money.{pension}
 use Rattle.money.specs.declared.PensionPence.{PensionPence}
 use Rattle.rates.specs.Rates.{rowOf}
-use Rattle.rounding.proofs.HalfUp.{nearest-within-half}
 use Rattle.rounding.proofs.Laws.{combine-none}
 use Rattle.rounding.specs.Nearest.{nearest, combine}
-use Rattle.settlement.proofs.Purchases.{lower-priced, upper-priced, years-of, credit-combined}
+use Rattle.settlement.proofs.Purchases.{lower-sound, upper-sound, years-of, credit-fits, credit-combined}
 use Rattle.settlement.specs.Credit.{purchaseIn, creditOf}
 use Rattle.settlement.proofs.earned.Statement.{statement}
 use Rattle.settlement.proofs.earned.Tie as tie
 
 -- one table's credit, by its row
 worked : (t : Terms) (p : ℕ) (ms row : List ℕ) {years : List ℕ} {k : PensionPence} → row ≡ rowOf (t .option) p (t .age)
-    → years ≡ yearCredits nearest (purchase row (t .amount / 250) (t .term)) → k ≡ pension (creditOver nearest years ms)
+    → years ≡ yearCredits nearest (purchase row (t .amount / stepPounds) (t .term)) → k ≡ pension (creditOver nearest years ms)
     → k ≡ pension (creditIn nearest (purchaseIn t p) ms)
 unfolding creditIn
 worked t p ms row e y k = k ∙ rw (years-of t p row e y)
 
 small : (t : Terms) (ms years : List ℕ) {k : PensionPence} → length ms ≤ 240 → Accepted t 0
-    → ((n : ℕ) → getD years n 0 ≤ t .amount / 250 * unit) → k ≡ pension (creditOver nearest years ms) → k .0 < 2 ^ 32
-small t ms years few a most k =
-    rw k
-    (omega (
-      arith,
-      credit-most nearest nearest-within-half years (t .amount / 250 * unit) most ms,
-      mul-le-mul {n₁ = length ms} {m₁ = t .amount / 250 * unit} {n₂ = 240} {m₂ = 650000} few (omega (arith, a .under-cap)),
-    ))
+    → ((n : ℕ) → getD years n 0 ≤ t .amount / stepPounds * unit) → k ≡ pension (creditOver nearest years ms) → k .0 < 2 ^ 32
+small t ms years few a most k = rw k (credit-fits years ms few (λ n. omega (arith, most n, a .under-cap)))
 
 only-table : (t : Terms) (ms : List ℕ) {k : PensionPence} → t .months ≡ 0 → k ≡ pension (creditIn nearest (purchaseIn t (t .years)) ms)
     → k ≡ pension (creditOf t ms)
@@ -53,7 +44,7 @@ both t ms e f = rw (e, f) (ap pension (sym (credit-combined t ms)))
 year-credits-requires : tie.Need-year-credits-requires
 year-credits-requires c κs =
     let m = c .before .before .pre .0 in
-    lower-priced _ (m .accepted) (m .some-years) (m .lower-is)
+    lower-sound _ (m .accepted) (m .some-years) (m .lower-is)
 
 credit-in-requires : tie.Need-credit-in-requires
 credit-in-requires c κs = search needs
@@ -66,7 +57,7 @@ returns c =
 year-credits-requires-2 : tie.Need-year-credits-requires-2
 year-credits-requires-2 c κs =
     let m = c .before .before .before .before .before .before .pre .0 in
-    upper-priced _ (m .accepted) (m .some-years) (c .if1 .left) (m .upper-is (c .if1 .left))
+    upper-sound _ (m .accepted) (m .some-years) (c .if1 .left) (m .upper-is (c .if1 .left))
 
 credit-in-requires-2 : tie.Need-credit-in-requires-2
 credit-in-requires-2 c κs = search needs

@@ -1,11 +1,10 @@
 -- `settlement::settle` meets its contract: the numbers are those defined, and so demand 3 holds of them.
 -- Assumes nothing.
 use mathlib.Core.List.{List}
-use mathlib.Core.Path.{_≡_, refl, sym, ap, subst, _∙_}
-use Prim.Native.Nat.{ℕ, _+_, _*_, _≤_, _<_, _^_}
+use mathlib.Core.Path.{_≡_, sym, subst, _∙_}
+use Prim.Native.Nat.{ℕ, _*_, _≤_, _<_, _^_}
 use native.Mathlib.Omega.{arith}
 use lib.Dec.{eqb}
-use lib.ListN.{length}
 use borrow.Author.Needs.{needs}
 use Rattle.common.specs.Choice.{pick}
 use Rattle.election.proofs.Laws.{contribution-most}
@@ -55,22 +54,22 @@ examine-requires c κs = search needs
 returns : tie.Need-returns
 returns c = near _ _ (refuses _ _ (c .before .before .examine .ensures) (c .if1 .taken))
 
-credit-at-requires : tie.Need-credit-at-requires
-credit-at-requires c κs =
+credit-at-status-requires : tie.Need-credit-at-status-requires
+credit-at-status-requires c κs =
     let e = c .before .before .before .before .before .examine .ensures in
     let none = examined-none _ _ e (c .before .before .before .if1 .left) in
     (λ other. examined-monthly _ _ e none (not-lump _ _ (rw (examined-status _ _ e none) at other)), few _ _ none)
 
-refund-at-requires : tie.Need-refund-at-requires
-refund-at-requires c κs =
+refund-at-status-requires : tie.Need-refund-at-status-requires
+refund-at-status-requires c κs =
     let e = c .before .before .before .before .before .before .examine .ensures in
     small _ _ e (examined-none _ _ e (c .before .before .before .before .if1 .left))
 
 returns-2 : tie.Need-returns-2
 returns-2 c =
     let e = c .before .before .before .before .before .before .before .examine .ensures in
-    near _ _ (settles _ _ e (examined-none _ _ e (c .before .before .before .before .before .if1 .left)) (c .before .credit-at .ensures) (c .refund-at .ensures))
+    near _ _ (settles _ _ e (examined-none _ _ e (c .before .before .before .before .before .if1 .left)) (c .before .credit-at-status .ensures) (c .refund-at-status .ensures))
 
 pub settle-spec : {M : Type 1} → statement M
 settle-spec =
-    tie.close (tie.spec examine-requires returns credit-at-requires refund-at-requires returns-2)
+    tie.close (tie.spec examine-requires returns credit-at-status-requires refund-at-status-requires returns-2)

@@ -1,10 +1,10 @@
--- `settlement::credit_at` meets its contract: status by status.
+-- `settlement::credit_at_status` meets its contract: status by status.
 -- Assumes nothing.
 use borrow.Author.Needs.{needs}
 use borrow.Author.Tests.{eq-eqb, ne-eqb}
 use Rattle.settlement.specs.Settle.{creditAtStatus}
-use Rattle.settlement.proofs.credit_at.Statement.{statement}
-use Rattle.settlement.proofs.credit_at.Tie as tie
+use Rattle.settlement.proofs.credit_at_status.Statement.{statement}
+use Rattle.settlement.proofs.credit_at_status.Tie as tie
 
 none-requires : tie.Need-none-requires
 none-requires c κs = search needs
@@ -27,7 +27,7 @@ returns-3 : tie.Need-returns-3
 unfolding creditAtStatus
 returns-3 c = rw (ne-eqb _ _ (c .before .before .if1 .left), ne-eqb _ _ (c .before .if2 .left)) (c .earned .ensures)
 
-pub credit-at-spec : {M : Type 1} → statement M
-credit-at-spec =
+pub credit-at-status-spec : {M : Type 1} → statement M
+credit-at-status-spec =
     tie.close
     (tie.spec none-requires returns of-pounds-requires returns-2 earned-requires returns-3)
