@@ -130,7 +130,8 @@ module _ {p chunk old bytes out : List ℕ} {len taken wrote : ℕ} (s : Settlin
       ∙ ap (λ (r : List ℕ). w ++ r) (end-written q part (f .before) ∙ sym row-is) in
       let more : takenWith ((length old - wrote) / 46) (drop taken chunk) ≡ (end - taken) + suc (takenWith n (drop (end + 1) chunk)) =
       ap (λ (k : ℕ). takenWith k (drop taken chunk)) lines ∙ ap (takenWith (suc n)) (ahead-end chunk taken end f h)
-      ∙ no-end-taken n part (10 ∷ drop (end + 1) chunk) (f .before) ∙ ap (λ (k : ℕ). k + suc (takenWith n (drop (end + 1) chunk))) (length-part chunk taken end f) in
+      ∙ no-end-taken n part (10 ∷ drop (end + 1) chunk) (f .before)
+      ∙ ap (λ (k : ℕ). k + suc (takenWith n (drop (end + 1) chunk))) (length-part chunk taken end f) in
       record {
         within = omega arith;
         small = omega arith;

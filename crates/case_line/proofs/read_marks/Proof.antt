@@ -27,7 +27,9 @@ same-length : tie.Need-same-length Inv-loop μ-loop
 same-length c = c .before .before .before .loop .inv .long
 
 returns : tie.Need-returns Inv-loop μ-loop
-returns c = not-all-digits _ _ (c .before .before .before .loop .inv .digits ∙ no-digit _ _ (c .before .before .loop-test .taken) (c .if1 .taken))
+returns c =
+    not-all-digits _ _
+    (c .before .before .before .loop .inv .digits ∙ no-digit _ _ (c .before .before .loop-test .taken) (c .if1 .taken))
 
 digit : (c : tie.Else1 Inv-loop μ-loop)
     → (48 ≤ getD (now (c .before .before .before .before .args .digits)) (c .before .before .before .loop .i) 0)

@@ -13,7 +13,8 @@ use Rattle.text.proofs.put_digits.Statement.{statement}
 use Rattle.text.proofs.put_digits.Tie as tie
 
 abbrev Inv-loop : tie.InvT-loop
-Inv-loop out₀ at width v last left₀ j₀ out left j = (j ≤ last) × ColumnsWritten out₀ at j left (frontOf last left₀ ++ drop (at + last) out₀) out
+Inv-loop out₀ at width v last left₀ j₀ out left j =
+    (j ≤ last) × ColumnsWritten out₀ at j left (frontOf last left₀ ++ drop (at + last) out₀) out
 
 abbrev μ-loop : tie.MeasureT-loop
 μ-loop out₀ at width v last left₀ j₀ out left j = j
