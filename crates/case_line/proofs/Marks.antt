@@ -49,8 +49,8 @@ mark-more l old ms i s h room low high =
           ∙ ap (λ (r : List ℕ). r ++ rest) (sym more);
     }
 
-pub no-marks : (l ms : List ℕ) → allDigits l ≡ false → MarksTold l ms false
-no-marks l ms e = record { told = sym e; are = λ t. absurd (subst (λ (b : Bool). T (not b)) t tt) }
+pub not-all-digits : (l ms : List ℕ) → allDigits l ≡ false → MarksTold l ms false
+not-all-digits l ms e = record { told = sym e; are = λ t. absurd (subst (λ (b : Bool). T (not b)) t tt) }
 
 pub marks-end : (l old ms : List ℕ) (i : ℕ) → MarksRead l old ms i → length l ≤ i → MarksTold l ms true
 unfolding allDigits marksIn

@@ -1,6 +1,6 @@
 -- The eight fields of a line: whole where each says a number.
 -- Assumes nothing.
-use mathlib.Core.Bool.{Bool, true, false, _&&_}
+use mathlib.Core.Bool.{Bool, _&&_}
 use mathlib.Core.List.{List}
 use mathlib.Core.Path.{_≡_, refl, sym, ap, _∙_}
 use Prim.Native.Nat.{ℕ}
@@ -77,8 +77,7 @@ module _ (line : List ℕ) {election age years months option payer term amount :
       rw (election-is, age-is, years-is, months-is, option-is, payer-is, term-is, amount-is)
       (in-turn (fieldOf (columns 1 6 line)) (fieldOf (columns 7 9 line)) (fieldOf (columns 10 12 line)) (fieldOf (columns 13 15 line)) (fieldOf (columns 16 17 line)) (fieldOf (columns 18 19 line)) (fieldOf (columns 20 22 line)) (fieldOf (columns 23 29 line)))
 
-  pub fields-whole : allRight election age years months option payer term amount ≡ true → allNumbers election age years months option payer term amount ≡ fieldsOf line
-  fields-whole e = ap (λ (b : Bool). pick b (allNumbers election age years months option payer term amount) WrongShape) (sym e) ∙ fields
-
-  pub fields-wrong : allRight election age years months option payer term amount ≡ false → WrongShape ≡ fieldsOf line
-  fields-wrong e = ap (λ (b : Bool). pick b (allNumbers election age years months option payer term amount) WrongShape) (sym e) ∙ fields
+  -- as the one test turned out
+  pub fields-are : (b : Bool) → allRight election age years months option payer term amount ≡ b
+      → pick b (allNumbers election age years months option payer term amount) WrongShape ≡ fieldsOf line
+  fields-are b e = ap (λ (b : Bool). pick b (allNumbers election age years months option payer term amount) WrongShape) (sym e) ∙ fields

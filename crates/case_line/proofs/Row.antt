@@ -1,4 +1,4 @@
--- A line of the listing filled column by column.
+-- A line of the listing filled field by field.
 -- Assumes nothing.
 use mathlib.Core.List.{List, [], _∷_, _++_}
 use mathlib.Core.Path.{_≡_, refl, sym, ap, _∙_}

@@ -9,7 +9,7 @@ use borrow.Author.Tests.{lt-ltb, le-ltb}
 use lib.Dec.{ltb}
 use lib.ListN.{length, take, drop, length-drop}
 use lib.Seq.{take-all}
-use Rattle.common.specs.Choice.{pick}
+use Rattle.common.proofs.Choice.{either}
 use Rattle.settlement.specs.Settle.{settleOf}
 use Rattle.case_line.specs.declared.Case.{Case}
 use Rattle.case_line.specs.declared.Fields.{Fields}
@@ -21,9 +21,9 @@ use Rattle.case_line.proofs.Range.{outside}
 use Rattle.case_line.proofs.Row.{length-listed}
 
 module _ (c : Case) {digits marks : List ℕ} {r : Bool} (told : MarksTold digits marks r) where
-  pub no-marks : r ≡ false → settledLine (Whole c) digits ≡ wrongShape
+  pub wrong-marks : r ≡ false → settledLine (Whole c) digits ≡ wrongShape
   unfolding settledLine
-  no-marks f = rw (sym (told .told) ∙ f)
+  wrong-marks f = rw (sym (told .told) ∙ f)
 
   pub settled : r ≡ true → settledLine (Whole c) digits ≡ listedAs (c .election) (settleOf (c .terms) (take (length digits) marks))
   unfolding settledLine
@@ -59,16 +59,14 @@ length-wrong : length wrongShape ≡ 46
 unfolding wrongShape
 length-wrong = length-listed _ _
 
-length-choice : (t : Bool) (a b : List ℕ) → length a ≡ 46 → length b ≡ 46 → length (pick t a b) ≡ 46
-length-choice true a b p q = p
-length-choice false a b p q = q
-
 length-settled : (f : Fields) (digits : List ℕ) → length (settledLine f digits) ≡ 46
 unfolding settledLine
 length-settled WrongShape digits = length-wrong
-length-settled (Whole c) digits = length-choice (allDigits digits) _ _ (length-listed _ _) length-wrong
+length-settled (Whole c) digits = either (λ (l : List ℕ). length l ≡ 46) (allDigits digits) (length-listed _ _) length-wrong
 
 -- a line of the listing has 46 bytes
 pub length-line : (line : List ℕ) → length (lineOf line) ≡ 46
 unfolding lineOf
-length-line line = length-choice (ltb (length line) 29) _ _ length-wrong (length-choice (ltb 285 (length line)) _ _ length-wrong (length-settled (fieldsOf line) (drop 29 line)))
+length-line line =
+    either (λ (l : List ℕ). length l ≡ 46) (ltb (length line) 29) length-wrong
+    (either (λ (l : List ℕ). length l ≡ 46) (ltb 285 (length line)) length-wrong (length-settled (fieldsOf line) (drop 29 line)))

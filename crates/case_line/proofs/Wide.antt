@@ -1,4 +1,4 @@
--- Every column of the listing is wide enough for its number: what is written there reads back as that number.
+-- Every field of the listing is wide enough for its number: what is written there reads back as that number.
 -- Assumes nothing.
 use mathlib.Core.List.{List}
 use mathlib.Core.Path.{_≡_}
@@ -15,7 +15,7 @@ use Rattle.settlement.specs.Settle.{SettleNumbers, settleOf}
 use Rattle.settlement.proofs.Bounds.{settle-bounds}
 use Rattle.case_line.specs.Shape.{columns}
 
--- the columns after the election number
+-- the fields after the election number
 pub record ReadBack (n : SettleNumbers) : Type 0 where
   pub refusal : fieldOf (columnOf 3 (n .refusal)) ≡ Number (n .refusal)
   pub place : fieldOf (columnOf 4 (n .place)) ≡ Number (n .place)

@@ -7,12 +7,11 @@ use lib.ListN.{length, drop}
 use Rattle.common.specs.Choice.{pick}
 use Rattle.text.specs.Column.{columnOf}
 use Rattle.settlement.specs.Settle.{SettleNumbers, settleOf}
-use Rattle.case_line.specs.declared.Case.{Case}
 use Rattle.case_line.specs.declared.Fields.{Fields}
 use Rattle.case_line.specs.declared.Fields.the-variants.{Whole, WrongShape}
 use Rattle.case_line.specs.Shape.{fieldsOf, allDigits, marksIn}
 
--- the seven columns of a line of the listing, 45 bytes, and its line end
+-- the seven fields of a line of the listing, 45 bytes, and its line end
 unfoldable pub listedAs : ℕ → SettleNumbers → List ℕ
 listedAs election n =
     columnOf 6 election
@@ -33,7 +32,7 @@ unfoldable pub settledLine : Fields → List ℕ → List ℕ
 settledLine WrongShape digits = wrongShape
 settledLine (Whole c) digits = pick (allDigits digits) (listedAs (c .election) (settleOf (c .terms) (marksIn digits))) wrongShape
 
--- a line of at most 285 bytes has its eight fields and up to 256 marks; any other shape is 15
+-- a line of 29 to 285 bytes has its eight fields and up to 256 marks; any other shape is 15
 unfoldable pub lineOf : List ℕ → List ℕ
 lineOf line =
     pick (ltb (length line) 29) wrongShape

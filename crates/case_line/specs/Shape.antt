@@ -9,7 +9,6 @@ use Rattle.common.specs.Choice.{pick}
 use Rattle.text.specs.declared.Field.{Field}
 use Rattle.text.specs.declared.Field.the-variants.{Number, NoNumber}
 use Rattle.text.specs.Field.{fieldOf}
-use Rattle.case_line.specs.declared.Case.{Case}
 use Rattle.case_line.specs.declared.Fields.{Fields}
 use Rattle.case_line.specs.declared.Fields.the-variants.{Whole, WrongShape}
 

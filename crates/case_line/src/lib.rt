@@ -13,12 +13,13 @@ use terms::Terms;
 use text::Field;
 
 // What the fields before the marks say.
-pub struct Case {
-    pub election: u32,
-    pub terms: Terms,
+struct Case {
+    election: u32,
+    terms: Terms,
 }
 
-pub enum Fields {
+// The fields before the marks: whole where each says a number.
+enum Fields {
     Whole(Case),
     WrongShape,
 }
@@ -52,6 +53,7 @@ fn said_in(line: &[u8], from: usize, to: usize) -> Said
     }
 }
 
+// The eight fields, each in its own bytes.
 fn read_fields(line: &[u8]) -> Fields
     requires { ⌜ 29 ≤ length (now line) ⌝ }
     ensures { λ r. ⌜ r ≡ fieldsOf (now (line .entry)) ⌝ }
@@ -107,10 +109,11 @@ fn read_marks(digits: &[u8], marks: &mut [u8]) -> bool
     true
 }
 
+// A line of the listing: the election and the six numbers, each at the right of its field, and the line end.
 fn listed(election: u32, n: Numbers) -> [u8; 46]
     ensures { λ r. ⌜ r ≡ listedAs election (numbersIn n) ⌝ }
 {
-    let mut row = [b'\n'; 46];
+    let mut row = [b' '; 46];
     text::put_number(&mut row, 0, 6, election as u64);
     text::put_number(&mut row, 6, 3, n.refusal);
     text::put_number(&mut row, 9, 4, n.place);
@@ -122,6 +125,7 @@ fn listed(election: u32, n: Numbers) -> [u8; 46]
     row
 }
 
+// The listing's line for a wrong shape: refusal 15, all else 0.
 fn wrong_shape() -> [u8; 46]
     ensures { λ r. ⌜ r ≡ wrongShape ⌝ }
 {

@@ -1,6 +1,5 @@
 -- Bytes of which none ends a line, and those up to a line end.
 -- Assumes nothing.
-use mathlib.Core.Bool.{Bool, true, false}
 use mathlib.Core.List.{List, [], _∷_, _++_, append-nil}
 use mathlib.Core.Path.{_≡_, refl, sym, ap, _∙_}
 use Prim.Native.Nat.{ℕ, suc, _+_, _-_, _<_, _≤_}
@@ -10,52 +9,36 @@ use lib.Dec.{eqb}
 use lib.ListN.{length, getD, take, drop, length-drop}
 use lib.Seq.{take-suc, getD-drop, take-all, append-snoc}
 use Rattle.case_line.specs.Line.{lineOf}
+use Rattle.common.proofs.Tests.{by-test}
 use Rattle.bytes.specs.Bytes.{slice, indexAfter, indexOf}
 use Rattle.casefile.specs.Stream.{openAfter, writtenBy, takenWith}
 use Rattle.casefile.specs.Told.{NoEnd, none, more, EndFound}
 use Rattle.casefile.proofs.Chunks.{open-append, written-append}
 
--- the first line end of a list, or its length where none is
+-- no line end stands before the index found
 none-before : (l : List ℕ) → NoEnd (take (indexOf 10 l) l)
 unfolding indexOf indexAfter
 none-before [] = none
-none-before (b ∷ l) = go (eqb b 10) refl (none-before l)
-  where
-    go : (t : Bool) → eqb b 10 ≡ t → NoEnd (take (indexOf 10 l) l) → NoEnd (take (indexAfter t (indexOf 10 l)) (b ∷ l))
-    go true e rest = none
-    go false e rest = more (eqb-false b 10 e) rest
+none-before (b ∷ l) = by-test (eqb b 10) (λ e. rw e none) (λ e. rw e (more (eqb-false b 10 e) (none-before l)))
 
-index-within : (l : List ℕ) → indexOf 10 l ≤ length l
-unfolding indexOf indexAfter
-index-within [] = omega arith
-index-within (b ∷ l) = go (eqb b 10) (index-within l)
-  where
-    go : (t : Bool) → indexOf 10 l ≤ length l → indexAfter t (indexOf 10 l) ≤ suc (length l)
-    go true rest = omega arith
-    go false rest = omega arith
-
+-- one stands at that index, where it is within the list
 ends-there : (l : List ℕ) → indexOf 10 l < length l → getD l (indexOf 10 l) 0 ≡ 10
 unfolding indexOf indexAfter
 ends-there [] h = absurd (omega arith)
-ends-there (b ∷ l) h = go (eqb b 10) refl h (ends-there l)
-  where
-    go : (t : Bool) → eqb b 10 ≡ t → indexAfter t (indexOf 10 l) < suc (length l)
-        → (indexOf 10 l < length l → getD l (indexOf 10 l) 0 ≡ 10) → getD (b ∷ l) (indexAfter t (indexOf 10 l)) 0 ≡ 10
-    go true e k rest = eqb-true b 10 e
-    go false e k rest = rest (omega arith)
+ends-there (b ∷ l) h =
+    by-test (eqb b 10) (λ e. rw e (eqb-true b 10 e)) (λ e. let k = rw e at h in rw e (ends-there l (omega (arith, k))))
 
 -- what a search of the chunk from `start` finds
-pub end-found : (chunk : List ℕ) (start : ℕ) {r : ℕ} → start ≤ length chunk → r ≡ start + indexOf 10 (slice start (length chunk) chunk)
-    → EndFound chunk start r
+pub end-found : (chunk : List ℕ) (start : ℕ) {r : ℕ} → r ≡ start + indexOf 10 (slice start (length chunk) chunk)
+    → r ≤ length chunk → EndFound chunk start r
 unfolding slice
-end-found chunk start {r} h is =
+end-found chunk start {r} is within =
     let all : drop start (take (length chunk) chunk) ≡ drop start chunk = ap (drop start) (take-all (length chunk) chunk (omega arith)) in
     let there : r ≡ start + indexOf 10 (drop start chunk) = is ∙ ap (λ (q : List ℕ). start + indexOf 10 q) all in
     let past : r - start ≡ indexOf 10 (drop start chunk) = omega (arith, there) in
-    let within = index-within (drop start chunk) in
     record {
       after = omega (arith, there);
-      within = omega (arith, there, within, length-drop start chunk);
+      within = within;
       before = rw past (none-before (drop start chunk));
       ends = λ k. ap (λ (n : ℕ). getD chunk n 0) there ∙ sym (getD-drop start chunk (indexOf 10 (drop start chunk)) 0)
           ∙ ends-there (drop start chunk) (omega (arith, there, k, length-drop start chunk));
@@ -83,10 +66,10 @@ unfolding takenWith
 no-end-taken n [] rest none = omega arith
 no-end-taken n (b ∷ s) rest (more h e) = rw (ne-eqb b 10 h) (ap suc (no-end-taken n s rest e) ∙ omega arith)
 
--- a line end after such bytes
-pub end-open : (p s : List ℕ) → NoEnd s → openAfter p (s ++ (10 ∷ [])) ≡ []
+-- after a line end
+pub end-open : (p s : List ℕ) → openAfter p (s ++ (10 ∷ [])) ≡ []
 unfolding openAfter
-end-open p s n = open-append p s (10 ∷ [])
+end-open p s = open-append p s (10 ∷ [])
 
 pub end-written : (p s : List ℕ) → NoEnd s → writtenBy p (s ++ (10 ∷ [])) ≡ lineOf (p ++ s)
 unfolding writtenBy

@@ -15,7 +15,7 @@ pub paste-more : (old : List ℕ) (at : ℕ) (part : List ℕ) (i : ℕ) {l : Li
 paste-more old at part i h k e = rw (e, add-one) (paste-suc old at part i 0 h k)
 
 -- no more than there are
-pub take-least : (n : ℕ) (l : List ℕ) → take (min n (length l)) l ≡ take n l
+take-least : (n : ℕ) (l : List ℕ) → take (min n (length l)) l ≡ take n l
 take-least zero l =
     let m : min 0 (length l) ≡ 0 = omega arith in
     rw m

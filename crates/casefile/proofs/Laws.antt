@@ -1,6 +1,5 @@
 -- What callers use of the stream: a chunk's counts, and that calls on the chunks of a file write its listing.
 -- Assumes nothing.
-use mathlib.Core.Bool.{Bool, true, false}
 use mathlib.Core.List.{List, [], _∷_, _++_, append-assoc}
 use mathlib.Core.Path.{_≡_, sym, ap, _∙_}
 use Prim.Native.Nat.{ℕ, zero, suc, _/_, _<_, _≤_}
@@ -8,7 +7,7 @@ use native.Mathlib.Omega.{arith}
 use lib.Dec.{eqb}
 use lib.ListN.{length, take, drop, length-append}
 use lib.Seq.{take-at}
-use Rattle.common.specs.Choice.{pick}
+use Rattle.common.proofs.Choice.{either}
 use Rattle.casefile.specs.declared.OpenLine.{OpenLine}
 use Rattle.casefile.specs.declared.ChunkSettled.{ChunkSettled}
 use Rattle.casefile.specs.declared.EndSettled.{EndSettled}
@@ -17,15 +16,12 @@ use Rattle.casefile.specs.Stream.{openAfter, writtenBy, writtenAtEnd, ta
 use Rattle.casefile.proofs.Last.{end-within, end-writes}
 use Rattle.casefile.proofs.Chunks.{open-append, written-append, listing-from, written-kept, end-kept}
 
-taken-choice : (t : Bool) (a b n : ℕ) → a ≤ n → b ≤ n → suc (pick t a b) ≤ suc n
-taken-choice true a b n p q = omega arith
-taken-choice false a b n p q = omega arith
-
 taken-within : (n : ℕ) (l : List ℕ) → takenWith n l ≤ length l
 unfolding takenWith
 taken-within zero l = omega arith
 taken-within (suc n) [] = omega arith
-taken-within (suc n) (b ∷ l) = taken-choice (eqb b 10) _ _ _ (taken-within n l) (taken-within (suc n) l)
+taken-within (suc n) (b ∷ l) =
+    either (λ (k : ℕ). suc k ≤ suc (length l)) (eqb b 10) (omega (arith, taken-within n l)) (omega (arith, taken-within (suc n) l))
 
 taken-some : (n : ℕ) (l : List ℕ) → 0 < n → 0 < length l → 0 < takenWith n l
 unfolding takenWith

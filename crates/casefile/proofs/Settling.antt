@@ -1,6 +1,6 @@
 -- A chunk settled line by line.
 -- Assumes nothing.
-use mathlib.Core.Bool.{Bool, true, false, _&&_, false≢true}
+use mathlib.Core.Bool.{true, false, _&&_, false≢true}
 use mathlib.Core.List.{List, [], _∷_, _++_, append-nil}
 use mathlib.Core.Path.{_≡_, refl, sym, ap, subst, _∙_}
 use Prim.Native.Nat.{ℕ, zero, suc, _+_, _-_, _/_, _<_, _≤_}
@@ -11,11 +11,13 @@ use borrow.Author.Tests.{ltb-true, ltb-false, leb-true, leb-false}
 use lib.Dec.{ltb, leb}
 use lib.ListN.{length, take, drop, length-append, length-drop, take-append-drop, drop-of-length-le}
 use lib.Seq.{paste, length-paste, take-all, take-at, take-add, drop-cons, drop-drop, drop-append-add, length-take-le}
+use Rattle.common.proofs.Tests.{by-test}
 use Rattle.casefile.specs.declared.OpenLine.{OpenLine}
+use Rattle.casefile.specs.declared.ChunkSettled.{ChunkSettled}
 use Rattle.casefile.specs.declared.Progress.{Progress}
 use Rattle.case_line.specs.Line.{lineOf}
 use Rattle.casefile.specs.Stream.{openAfter, writtenBy, takenWith, bytesOf, ChunkTold}
-use Rattle.casefile.specs.Told.{NoEnd, EndFound, Kept, PartTold, line-ends, goes-on}
+use Rattle.casefile.specs.Told.{EndFound, Kept, PartTold, line-ends, goes-on}
 use Rattle.case_line.proofs.Shapes.{length-line}
 use Rattle.casefile.proofs.Chunks.{open-append, written-append, line-kept, kept-more}
 use Rattle.casefile.proofs.Ends.{next-byte, no-end-open, no-end-written, no-end-taken, end-open, end-written}
@@ -34,11 +36,8 @@ pub record Settling (p chunk old bytes out : List ℕ) (len taken wrote : ℕ) :
 
 -- a further part: there is one, and room for its line
 pub further : (taken n free : ℕ) → ltb taken n && leb 46 free ≡ true → (taken < n) × (46 ≤ free)
-further taken n free e = go (ltb taken n) refl e
-  where
-    go : (b : Bool) → ltb taken n ≡ b → b && leb 46 free ≡ true → (taken < n) × (46 ≤ free)
-    go true more room = (ltb-true _ _ more, leb-true _ _ room)
-    go false _ none = absurd (false≢true none)
+further taken n free e =
+    by-test (ltb taken n) (λ more. (ltb-true _ _ more, leb-true _ _ (rw more at e))) (λ none. absurd (false≢true (rw none at e)))
 
 pub at-start : (bytes chunk old : List ℕ) (len : ℕ) → length bytes ≡ 286 → len ≤ 286 → Settling (take len bytes) chunk old bytes old len 0 0
 unfolding openAfter writtenBy
@@ -98,33 +97,41 @@ row-more w old out row wrote n e long =
     ap (drop (wrote + 46)) e ∙ ap (λ (k : ℕ). drop (k + 46) (w ++ drop wrote old)) n ∙ drop-append-add w (drop wrote old) 46 ∙ drop-drop 46 wrote old in
     rw (there, behind, take-all 46 row (omega arith))
 
--- the n-th line end is that much nearer
-taken-more : (n : ℕ) (part rest : List ℕ) → NoEnd part → takenWith (suc n) (part ++ 10 ∷ rest) ≡ length part + suc (takenWith n rest)
-unfolding takenWith
-taken-more n part rest h = no-end-taken n part (10 ∷ rest) h
-
 module _ {p chunk old bytes out : List ℕ} {len taken wrote : ℕ} (s : Settling p chunk old bytes out len taken wrote)
     (end : ℕ) (f : EndFound chunk taken end) (free : 46 ≤ length out - wrote) where
+  -- the next part of the chunk, what was open and what was written before it, and how many lines fit after one more
+  abbrev part : List ℕ
+  part = take (end - taken) (drop taken chunk)
+
+  abbrev q : List ℕ
+  q = openAfter p (take taken chunk)
+
+  abbrev w : List ℕ
+  w = writtenBy p (take taken chunk)
+
+  abbrev n : ℕ
+  n = (length old - (wrote + 46)) / 46
+
+  lines : (length old - wrote) / 46 ≡ suc n
+  lines = omega (arith, s .out-long)
+
   -- a line ends
   line-ended : (bytes′ row out′ : List ℕ) → end < length chunk → length bytes′ ≡ length bytes
-      → row ≡ lineOf (take len bytes ++ take (end - taken) (drop taken chunk)) → out′ ≡ paste out wrote row 46
+      → row ≡ lineOf (take len bytes ++ part) → out′ ≡ paste out wrote row 46
       → Settling p chunk old bytes′ out′ 0 (end + 1) (wrote + 46)
+  unfolding takenWith
   line-ended bytes′ row out′ h long is e =
-      let part = take (end - taken) (drop taken chunk) in
-      let q = openAfter p (take taken chunk) in
-      let w = writtenBy p (take taken chunk) in
       let row-is : row ≡ lineOf (q ++ part) = is ∙ ap (λ (r : List ℕ). lineOf (r ++ part)) (s .kept) ∙ kept-line q part in
       let row-long : length row ≡ 46 = ap length row-is ∙ length-line (q ++ part) in
       let opened : openAfter p (take (end + 1) chunk) ≡ [] =
-      ap (openAfter p) (passed-end chunk taken end f h) ∙ open-append p (take taken chunk) (part ++ (10 ∷ [])) ∙ end-open q part (f .before) in
+      ap (openAfter p) (passed-end chunk taken end f h) ∙ open-append p (take taken chunk) (part ++ (10 ∷ [])) ∙ end-open q part in
       let listed : writtenBy p (take (end + 1) chunk) ≡ w ++ row =
       ap (writtenBy p) (passed-end chunk taken end f h) ∙ written-append p (take taken chunk) (part ++ (10 ∷ []))
       ∙ ap (λ (r : List ℕ). w ++ r) (end-written q part (f .before) ∙ sym row-is) in
-      let n = (length old - (wrote + 46)) / 46 in
-      let lines : (length old - wrote) / 46 ≡ suc ((length old - (wrote + 46)) / 46) = omega (arith, s .out-long) in
-      let more : takenWith ((length old - wrote) / 46) (drop taken chunk) ≡ (end - taken) + suc (takenWith ((length old - (wrote + 46)) / 46) (drop (end + 1) chunk)) =
+      let more : takenWith ((length old - wrote) / 46) (drop taken chunk) ≡ (end - taken) + suc (takenWith n (drop (end + 1) chunk)) =
       ap (λ (k : ℕ). takenWith k (drop taken chunk)) lines ∙ ap (takenWith (suc n)) (ahead-end chunk taken end f h)
-      ∙ taken-more n part (drop (end + 1) chunk) (f .before) ∙ ap (λ (k : ℕ). k + suc (takenWith n (drop (end + 1) chunk))) (length-part chunk taken end f) in
+      ∙ no-end-taken n part (10 ∷ drop (end + 1) chunk) (f .before)
+      ∙ ap (λ (k : ℕ). k + suc (takenWith n (drop (end + 1) chunk))) (length-part chunk taken end f) in
       record {
         within = omega arith;
         small = omega arith;
@@ -138,19 +145,14 @@ module _ {p chunk old bytes out : List ℕ} {len taken wrote : ℕ} (s : Settlin
       }
 
   -- the line goes on past the chunk
-  line-goes-on : (bytes′ : List ℕ) (r : ℕ) → length bytes′ ≡ length bytes → Kept bytes len (take (end - taken) (drop taken chunk)) bytes′ r
+  line-goes-on : (bytes′ : List ℕ) (r : ℕ) → length bytes′ ≡ length bytes → Kept bytes len part bytes′ r
       → Settling p chunk old bytes′ out r end wrote
   line-goes-on bytes′ r long k =
-      let part = take (end - taken) (drop taken chunk) in
-      let q = openAfter p (take taken chunk) in
-      let w = writtenBy p (take taken chunk) in
       let opened : openAfter p (take end chunk) ≡ q ++ part =
       ap (openAfter p) (passed chunk taken end f) ∙ open-append p (take taken chunk) part ∙ no-end-open q part (f .before) in
       let listed : writtenBy p (take end chunk) ≡ w =
       ap (writtenBy p) (passed chunk taken end f) ∙ written-append p (take taken chunk) part
       ∙ ap (λ (x : List ℕ). w ++ x) (no-end-written q part (f .before)) ∙ append-nil w in
-      let n = (length old - (wrote + 46)) / 46 in
-      let lines : (length old - wrote) / 46 ≡ suc ((length old - (wrote + 46)) / 46) = omega (arith, s .out-long) in
       let more : takenWith ((length old - wrote) / 46) (drop taken chunk) ≡ (end - taken) + takenWith ((length old - wrote) / 46) (drop end chunk) =
       ap (takenWith ((length old - wrote) / 46)) (ahead-of chunk taken end f) ∙ ap (λ (k : ℕ). takenWith k (part ++ drop end chunk)) lines
       ∙ no-end-taken n part (drop end chunk) (f .before)
@@ -192,16 +194,15 @@ unfolding takenWith
 taken-none zero = refl
 taken-none (suc n) = refl
 
-no-room : (l : List ℕ) → takenWith 0 l ≡ 0
-unfolding takenWith
-no-room l = refl
-
 module _ (o : OpenLine) {p chunk old bytes out : List ℕ} {len taken wrote : ℕ} (e : p ≡ bytesOf o) (s′ : Settling p chunk old bytes out len taken wrote) where
   s : Settling (bytesOf o) chunk old bytes out len taken wrote
   s = subst (λ (q : List ℕ). Settling q chunk old bytes out len taken wrote) e s′
 
-  at-stop : takenWith ((length old - wrote) / 46) (drop taken chunk) ≡ 0
-      → ChunkTold o chunk old out (record { after = record { bytes = bytes; len = len }; taken = taken; wrote = wrote })
+  -- what is handed back
+  abbrev handed : ChunkSettled
+  handed = record { after = record { bytes = bytes; len = len }; taken = taken; wrote = wrote }
+
+  at-stop : takenWith ((length old - wrote) / 46) (drop taken chunk) ≡ 0 → ChunkTold o chunk old out handed
   at-stop none =
       record {
         taken = sym (s .ahead ∙ omega (arith, none));
@@ -211,20 +212,16 @@ module _ (o : OpenLine) {p chunk old bytes out : List ℕ} {len taken wrote : �
       }
 
   -- the chunk is through
-  at-end : length chunk ≤ taken → ChunkTold o chunk old out (record { after = record { bytes = bytes; len = len }; taken = taken; wrote = wrote })
-  at-end h = at-stop (ap (takenWith _) (drop-of-length-le chunk h) ∙ taken-none _)
+  at-chunk-end : length chunk ≤ taken → ChunkTold o chunk old out handed
+  at-chunk-end h = at-stop (ap (takenWith _) (drop-of-length-le chunk h) ∙ taken-none _)
 
   -- no further line fits
-  at-full : length out - wrote < 46 → ChunkTold o chunk old out (record { after = record { bytes = bytes; len = len }; taken = taken; wrote = wrote })
+  at-full : length out - wrote < 46 → ChunkTold o chunk old out handed
+  unfolding takenWith
   at-full h =
       let none : (length old - wrote) / 46 ≡ 0 = omega (arith, s .out-long) in
-      at-stop (ap (λ (k : ℕ). takenWith k (drop taken chunk)) none ∙ no-room (drop taken chunk))
+      at-stop (ap (λ (k : ℕ). takenWith k (drop taken chunk)) none)
 
-  pub chunk-settled : ltb taken (length chunk) && leb 46 (length out - wrote) ≡ false
-      → ChunkTold o chunk old out (record { after = record { bytes = bytes; len = len }; taken = taken; wrote = wrote })
-  chunk-settled e = go (ltb taken (length chunk)) refl e
-    where
-      go : (b : Bool) → ltb taken (length chunk) ≡ b → b && leb 46 (length out - wrote) ≡ false
-          → ChunkTold o chunk old out (record { after = record { bytes = bytes; len = len }; taken = taken; wrote = wrote })
-      go false through _ = at-end (ltb-false _ _ through)
-      go true _ full = at-full (leb-false _ _ full)
+  pub chunk-settled : ltb taken (length chunk) && leb 46 (length out - wrote) ≡ false → ChunkTold o chunk old out handed
+  chunk-settled e =
+      by-test (ltb taken (length chunk)) (λ t. at-full (leb-false _ _ (rw t at e))) (λ t. at-chunk-end (ltb-false _ _ t))

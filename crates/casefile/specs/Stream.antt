@@ -50,16 +50,6 @@ unfoldable pub endOf : List ℕ → EndSettled
 endOf [] = record { bytes = replicate 46 0; wrote = 0 }
 endOf (b ∷ bs) = record { bytes = lineOf (b ∷ bs); wrote = 46 }
 
--- what settling chunk after chunk writes, then the end
-unfoldable pub writtenThrough : List ℕ → List (List ℕ) → List ℕ
-writtenThrough p [] = writtenAtEnd p
-writtenThrough p (c ∷ cs) = writtenBy p c ++ writtenThrough (take 286 (openAfter p c)) cs
-
--- the file that the chunks are
-unfoldable pub fileOf : List (List ℕ) → List ℕ
-fileOf [] = []
-fileOf (c ∷ cs) = c ++ fileOf cs
-
 -- Any calls one after the other, then the call at the end: the open line before them, the bytes that they work through
 -- and the bytes that they write.
 pub data Calls : OpenLine → List ℕ → List ℕ → Type 0 where

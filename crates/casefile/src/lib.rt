@@ -43,12 +43,14 @@ const KEPT: usize = 286;
 // The bytes of a line of the listing, its end included.
 const LISTED: usize = 46;
 
+// The lesser of two numbers.
 fn least(a: usize, b: usize) -> usize
     ensures { λ r. ⌜ r ≡ min a b ⌝ }
 {
     if a < b { a } else { b }
 }
 
+// Copies the first n bytes of a part to an index and on.
 fn copy(to: &mut [u8], at: usize, part: &[u8], n: usize)
     requires { ⌜ (at + n ≤ length (now to)) × (n ≤ length (now part)) ⌝ }
     ensures { λ _. ⌜ now (to .exit) ≡ paste (now (to .entry)) at (now (part .entry)) n ⌝ }
@@ -60,7 +62,7 @@ fn copy(to: &mut [u8], at: usize, part: &[u8], n: usize)
     }
 }
 
-// The part after the len bytes that are there, as far as 286 go.
+// Puts the part after the len bytes that are there, as far as 286 go, and gives how many are there then.
 fn keep(bytes: &mut [u8], len: usize, part: &[u8]) -> usize
     requires { ⌜ (length (now bytes) ≡ 286) × (len ≤ 286) ⌝ }
     ensures { λ r. ⌜ Kept (now (bytes .entry)) len (now (part .entry)) (now (bytes .exit)) r ⌝ }
@@ -109,6 +111,7 @@ fn settle_part(bytes: &mut [u8], chunk: &[u8], out: &mut [u8], at: Progress) -> 
     }
 }
 
+// No line is open: the start of a file.
 pub fn no_line() -> OpenLine
     ensures { λ r. ⌜ bytesOf r ≡ [] ⌝ }
 {
@@ -118,12 +121,14 @@ pub fn no_line() -> OpenLine
     }
 }
 
-// Works through a chunk as far as out has room for the lines that end in it.
+// Works through a chunk to its end, or up to the line end after which out has no room for another line of 46 bytes; without
+// room for one, takes nothing.
 pub fn settle_chunk(before: OpenLine, chunk: &[u8], out: &mut [u8]) -> ChunkSettled
     ensures { λ r. ⌜ ChunkTold before (now (chunk .entry)) (now (out .entry)) (now (out .exit)) r ⌝ }
 {
     let mut bytes = before.bytes;
     let mut at = Progress {
+        // The type allows any len; no more than 286 bytes are there.
         len: least(before.len, KEPT),
         taken: 0,
         wrote: 0,
@@ -143,6 +148,7 @@ pub fn settle_end(before: OpenLine) -> EndSettled
     ensures { λ r. ⌜ r ≡ endOf (bytesOf before) ⌝ }
 {
     let bytes = before.bytes;
+    // As in settle_chunk.
     let open = least(before.len, KEPT);
     if open == 0 {
         return EndSettled {

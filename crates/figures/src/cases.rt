@@ -73,7 +73,7 @@ pub const DOCUMENT_01: [u64; 50] = [
     RATE, 2, 65, 64, 1, // none is printed
 ];
 
-// Every operation at its edges. A remark that starts with a number names the refusal.
+// The cap decision, Quote, Settle and Schedule at their edges. A remark that starts with a number names the refusal.
 pub const EDGES: [u64; 1495] = [
     CAP_DECISION, 0,
     CAP_DECISION, 1,

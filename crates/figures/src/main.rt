@@ -1,5 +1,6 @@
-// The documents' figures and every operation at its edges, one to a line: what is asked, then what the part gives, money in pence.
-// The figures that are marked as proved are rows of crate `rows`; the file stdout holds what the others must be.
+// The documents' figures, and the cap decision, Quote, Settle and Schedule at their edges, one to a line: what is asked, then what
+// the part gives, money in pence. The figures that are marked as proved are rows of crate `rows`; the file stdout holds what the
+// others must be. Posting and the member total are run by program `posting`.
 mod cases;
 mod elapsed;
 mod line;

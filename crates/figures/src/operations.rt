@@ -10,7 +10,6 @@ use money::PensionPence;
 use quotes::QuoteAnswer;
 use quotes::Quoted;
 use quotes::Register;
-use settlement::Settlement;
 use terms::Terms;
 
 // The number in a column; 0 past the row.
@@ -106,31 +105,26 @@ fn quote(row: &[u64]) {
     );
 }
 
-// Refusal, place, contribution, status, credit, refund.
-fn settlement_numbers(settlement: Settlement) -> [u64; 6] {
-    match settlement {
-        Settlement::Refused { refusal, place } => [refusal as u64, place as u64, 0, 0, 0, 0],
-        Settlement::Settled {
-            contribution,
-            status,
-            credit,
-            refund,
-        } => [0, 0, contribution.0, status as u64, credit.0, refund.0],
-    }
-}
-
 fn settle(row: &[u64]) {
     let months = marks(row);
     let all = months.marks;
     let settlement = settlement::settle(terms(row), elapsed::first(&all, months.count));
-    let answer = settlement_numbers(settlement);
+    let n = numbers::numbers_of(settlement);
     line::filled(
         b"settle* is refusal# place# contribution# status# credit# refund#",
         row,
-        answer,
+        [
+            n.refusal,
+            n.place,
+            n.contribution,
+            n.status,
+            n.credit,
+            n.refund,
+        ],
     );
 }
 
+// Schedule with the list that is lent.
 fn schedule_into(row: &[u64], months: &[u8], list: &mut [u32]) {
     let answer = schedule::schedule(terms(row), months, list);
     line::filled(
@@ -141,7 +135,8 @@ fn schedule_into(row: &[u64], months: &[u8], list: &mut [u32]) {
     line::entries(list);
 }
 
-// Each entry of the lent list holds 7 before the call, and the whole list is printed after it.
+// Each entry of the lent list holds 7 before the call, and the whole list is printed after it. A row that asks for more than 20
+// entries prints nothing.
 fn schedule(row: &[u64]) {
     let months = marks(row);
     let all = months.marks;
@@ -157,6 +152,7 @@ fn schedule(row: &[u64]) {
     );
 }
 
+// By the number of its columns, as cases.rt names them; any other row prints nothing.
 fn print_row(row: &[u64]) {
     match row.len() {
         1 => cap_decision(row),
@@ -181,6 +177,7 @@ fn row_end(from: usize, columns: u64, end: usize) -> usize
     from + 1 + columns as usize
 }
 
+// A line for each row, after the document's name.
 pub fn print_table(document: &[u8], table: &[u64]) {
     let mut from = 0;
     while from < table.len() {

@@ -15,16 +15,18 @@ use Rattle.settlement.proofs.Bounds.{settle-bounds}
 use Rattle.host.specs.Calls.{answerIn, quoteBytes, settleBytes, hostQuoteOf, hostSettleOf}
 use Rattle.host.proofs.QuoteBounds.{quote-bounds}
 
-module _ (size refusal : ℕ) (result buffer : List ℕ) where
-  short : length buffer < size
-      → (14 ≡ answerIn size refusal result buffer .value) × (buffer ≡ answerIn size refusal result buffer .buffer)
-  unfolding answerIn
-  short h = rw (lt-ltb (length buffer) size h) (refl, refl)
+short : (size refusal : ℕ) (result buffer : List ℕ) → length buffer < size
+    → (14 ≡ answerIn size refusal result buffer .value) × (buffer ≡ answerIn size refusal result buffer .buffer)
+unfolding answerIn
+short size refusal result buffer h = rw (lt-ltb (length buffer) size h) (refl, refl)
 
-  enough : size ≤ length buffer
-      → (refusal ≡ answerIn size refusal result buffer .value) × (result ++ drop size buffer ≡ answerIn size refusal result buffer .buffer)
-  unfolding answerIn
-  enough h = rw (le-ltb (length buffer) size h) (refl, refl)
+-- where n is the operation's answer m
+enough : {A : Type 0} (refusal : A → ℕ) (bytes : A → List ℕ) (size : ℕ) (buffer : List ℕ) (n m : A) {value : ℕ} {after : List ℕ}
+    → size ≤ length buffer → n ≡ m → (value ≡ refusal n) × (after ≡ bytes n ++ drop size buffer)
+    → (value ≡ answerIn size (refusal m) (bytes m) buffer .value) × (after ≡ answerIn size (refusal m) (bytes m) buffer .buffer)
+unfolding answerIn
+enough {A} refusal bytes size buffer n m h is told =
+    rw (le-ltb (length buffer) size h) (told .0 ∙ ap refusal is, told .1 ∙ ap (λ (a : A). bytes a ++ drop size buffer) is)
 
 -- the value of a call that has room is small
 
@@ -49,11 +51,7 @@ module _ (t : Terms) (existing last : ℕ) (buffer : List ℕ) where
       → (value ≡ n .refusal) × (after ≡ quoteBytes n ++ drop 24 buffer)
       → (value ≡ hostQuoteOf t existing last buffer .value) × (after ≡ hostQuoteOf t existing last buffer .buffer)
   unfolding hostQuoteOf
-  quote-enough h is told =
-      let whole = enough 24 (quoteOf t existing last .refusal) (quoteBytes (quoteOf t existing last)) buffer h in (
-        told .0 ∙ ap (λ (n : QuoteNumbers). n .refusal) is ∙ whole .0,
-        told .1 ∙ ap (λ (n : QuoteNumbers). quoteBytes n ++ drop 24 buffer) is ∙ whole .1,
-      )
+  quote-enough h is told = enough (λ (n : QuoteNumbers). n .refusal) quoteBytes 24 buffer _ _ h is told
 
   -- where the numbers of the quote are stored, in their order
   pub quote-told : {n : QuoteNumbers} {told after : List ℕ} → 24 ≤ length buffer → n ≡ quoteOf t existing last
@@ -73,11 +71,7 @@ module _ (t : Terms) (marks buffer : List ℕ) where
       → (value ≡ n .refusal) × (after ≡ settleBytes n ++ drop 48 buffer)
       → (value ≡ hostSettleOf t marks buffer .value) × (after ≡ hostSettleOf t marks buffer .buffer)
   unfolding hostSettleOf
-  settle-enough h is told =
-      let whole = enough 48 (settleOf t marks .refusal) (settleBytes (settleOf t marks)) buffer h in (
-        told .0 ∙ ap (λ (n : SettleNumbers). n .refusal) is ∙ whole .0,
-        told .1 ∙ ap (λ (n : SettleNumbers). settleBytes n ++ drop 48 buffer) is ∙ whole .1,
-      )
+  settle-enough h is told = enough (λ (n : SettleNumbers). n .refusal) settleBytes 48 buffer _ _ h is told
 
   -- where the numbers of the settlement are stored, in their order
   pub settle-told : {n : SettleNumbers} {after : List ℕ} → 48 ≤ length buffer → n ≡ settleOf t marks

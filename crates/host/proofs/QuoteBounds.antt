@@ -1,13 +1,12 @@
 -- How large the numbers of a quote can be.
 -- Assumes nothing.
-use mathlib.Core.Bool.{Bool, true, false}
-use mathlib.Core.Path.{_≡_, refl}
-use Prim.Native.Nat.{ℕ, _+_, _≤_, _<_}
+use mathlib.Core.Path.{_≡_}
+use Prim.Native.Nat.{ℕ, _≤_, _<_}
 use native.Mathlib.Omega.{arith}
 use borrow.Author.Tests.{eqb-true, eqb-false, leb-false}
 use lib.Dec.{eqb, leb}
-use Rattle.common.specs.Choice.{pick}
 use Rattle.common.proofs.Tests.{by-test}
+use Rattle.common.proofs.Choice.{either, not-first}
 use Rattle.terms.specs.declared.Terms.{Terms}
 use Rattle.terms.specs.Rules.{refusalOf}
 use Rattle.election.proofs.Laws.{accepted-facts, refusal-most, contribution-most}
@@ -22,22 +21,19 @@ pub record QuoteBounds (n : QuoteNumbers) : Type 0 where
 module _ (t : Terms) (existing last : ℕ) where
   quote-refusal-most : quoteRefusal t existing last ≤ 9
   unfolding quoteRefusal
-  quote-refusal-most = go (eqb (refusalOf t existing) 0) (leb 999999 last)
-    where
-      go : (terms full : Bool) → pick terms (pick full 9 0) (refusalOf t existing) ≤ 9
-      go true true = omega arith
-      go true false = omega arith
-      go false full = omega (arith, refusal-most t existing)
+  quote-refusal-most =
+      either (λ (n : ℕ). n ≤ 9) (eqb (refusalOf t existing) 0)
+      (either (λ (n : ℕ). n ≤ 9) (leb 999999 last) (omega arith) (omega arith))
+      (omega (arith, refusal-most t existing))
 
   made : quoteRefusal t existing last ≡ 0 → (refusalOf t existing ≡ 0) × (last < 999999)
   unfolding quoteRefusal
-  made = go (eqb (refusalOf t existing) 0) (leb 999999 last) refl refl
-    where
-      go : (terms full : Bool) → eqb (refusalOf t existing) 0 ≡ terms → leb 999999 last ≡ full
-          → pick terms (pick full 9 0) (refusalOf t existing) ≡ 0 → (refusalOf t existing ≡ 0) × (last < 999999)
-      go true true e f z = omega arith
-      go true false e f z = (eqb-true _ _ e, leb-false _ _ f)
-      go false full e f z = absurd (eqb-false _ _ e z)
+  made z =
+      by-test (eqb (refusalOf t existing) 0)
+      (λ e.
+      let last-passed = not-first (λ (n : ℕ). n ≡ 0) (leb 999999 last) 9 0 (λ nine. omega arith) (rw e at z) in
+      (eqb-true _ _ e, leb-false _ _ (last-passed .0)))
+      (λ e. absurd (eqb-false _ _ e (rw e at z)))
 
   pub quote-bounds : QuoteBounds (quoteOf t existing last)
   unfolding quoteOf

@@ -5,12 +5,14 @@ ghost use lib.ListN.{length};
 ghost use lib.Seq.{sets};
 ghost use Rattle.number_bytes.specs.Bytes.{eightBytes, storedIn};
 
+// The lowest byte of n.
 fn low_byte(n: u64) -> u8
     ensures { λ r. ⌜ r ≡ n % 256 ⌝ }
 {
     (n % 256) as u8
 }
 
+// The eight bytes of n.
 fn low_byte_first(n: u64) -> [u8; 8]
     ensures { λ r. ⌜ r ≡ eightBytes n ⌝ }
 {
@@ -50,6 +52,7 @@ fn put(out: &mut [u8], at: usize, n: u64)
 pub fn put_all(out: &mut [u8], numbers: &[u64])
     ensures { λ _. ⌜ now (out .exit) ≡ storedIn (now (numbers .entry)) (now (out .entry)) ⌝ }
 {
+    // Divided, so that nothing wraps.
     if out.len() / 8 < numbers.len() {
         return;
     }

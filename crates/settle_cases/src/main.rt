@@ -7,6 +7,7 @@ use libc::STDERR_FILENO;
 use libc::STDIN_FILENO;
 use libc::STDOUT_FILENO;
 
+// How a read and what came of it went.
 enum Next {
     ReadOn,
     AtEnd,
@@ -44,6 +45,7 @@ fn print_settled(before: OpenLine, chunk: &[u8], out: &mut [u8]) -> Turn
     }
 }
 
+// Reads once, and settles and prints what was read.
 fn read_once(before: OpenLine, chunk: &mut [u8], out: &mut [u8]) -> Turn
     requires { ⌜ 46 ≤ length (now out) ⌝ }
 {
@@ -72,6 +74,7 @@ fn say_writing_failed() {
     io::write_all(STDERR_FILENO, b"settle_cases: writing failed\n");
 }
 
+// Settles and prints the line that the end of the input ends, if one is open.
 fn print_last(before: OpenLine) {
     let last = casefile::settle_end(before);
     let bytes = last.bytes;
@@ -81,7 +84,8 @@ fn print_last(before: OpenLine) {
     }
 }
 
-// The turns count down, since no contract says that the input ends.
+// Reads, settles and prints until the input ends or something fails. The turns count down, since no contract says that the
+// input ends.
 fn settle_input(chunk: &mut [u8], out: &mut [u8])
     requires { ⌜ 46 ≤ length (now out) ⌝ }
 {

@@ -1,7 +1,7 @@
--- A number that is written in a column wide enough for it is read back, so nothing of it is lost.
+-- A number that is written in a field wide enough for it is read back, so nothing of it is lost.
 -- Assumes nothing.
 use mathlib.Core.Bool.{Bool, true, false}
-use mathlib.Core.List.{List, [], _∷_, _++_, append-assoc}
+use mathlib.Core.List.{List, [], _∷_, _++_}
 use mathlib.Core.Path.{_≡_, refl, sym, ap, _∙_}
 use Prim.Native.Nat.{ℕ, zero, suc, _+_, _*_, _-_, _/_, _%_, _<_, _≤_, _^_}
 use native.Mathlib.Decide.{ℕ-discrete}
@@ -12,6 +12,7 @@ use lib.Dec.{ltb, eqb}
 use lib.ListN.{length}
 use lib.Seq.{append-snoc}
 use Rattle.common.specs.Choice.{pick}
+use Rattle.common.proofs.Choice.{either, not-first}
 use Rattle.text.specs.declared.Field.{Field}
 use Rattle.text.specs.declared.Field.the-variants.{Number, NoNumber}
 use Rattle.text.specs.Field.{digitsOf, zeroOf, fieldOf}
@@ -101,11 +102,6 @@ column-read zero v wide small =
     lone-digit (v % 10) (omega arith) ∙ ap Number all
 column-read (suc w) v wide small = one-more w v small (column-read w (v / 10) (omega (arith, pow-suc 10 (suc w))) (omega arith))
 
--- what a test that a number has passed tells
-passed : (t : Bool) (x : Field) {n : ℕ} {P : Type 0} → pick t NoNumber x ≡ Number n → (t ≡ false → x ≡ Number n → P) → P
-passed true x e f = no-number e
-passed false x e f = f refl e
-
 below-more : (a x n p q : ℕ) → n < x * p → x * p ≤ (a + 1) * 10 * p → q ≡ p * 10 → n < (a + 1) * q
 below-more a x n p q h g e = rw e (omega arith)
 
@@ -115,30 +111,26 @@ digits-below [] a n e =
     let same : a ≡ n = cc in
     omega arith
 digits-below (b ∷ l) a n e =
-    passed (ltb b 48) _ e
-    (λ t₁ e₁. passed (ltb 57 b) _ e₁
-    (λ t₂ e₂. passed (ltb 99999999 a) _ e₂
-    (λ t₃ e₃.
-    let digit : b ≤ 57 = ltb-false 57 b t₂ in
+    let low = not-first (λ (f : Field). f ≡ Number n) (ltb b 48) _ _ no-number e in
+    let high = not-first (λ (f : Field). f ≡ Number n) (ltb 57 b) _ _ no-number (low .1) in
+    let many = not-first (λ (f : Field). f ≡ Number n) (ltb 99999999 a) _ _ no-number (high .1) in
+    let digit : b ≤ 57 = ltb-false 57 b (high .0) in
     let more = mul-le-mul-right {m = a * 10 + (b - 48) + 1} {n = (a + 1) * 10} (10 ^ length l) (omega arith) in
-    below-more a _ n _ _ (digits-below l (a * 10 + (b - 48)) n e₃) more (pow-suc 10 (length l)))))
+    below-more a _ n _ _ (digits-below l (a * 10 + (b - 48)) n (many .1)) more (pow-suc 10 (length l))
 
 zero-below : (l : List ℕ) {n : ℕ} → zeroOf l ≡ Number n → n ≡ 0
 unfolding zeroOf
 zero-below [] e = cc
 zero-below (b ∷ l) e = no-number e
 
--- a column of w bytes says less than the power w of ten
+-- a field of w bytes says less than the power w of ten
 pub field-below : (l : List ℕ) (n : ℕ) → fieldOf l ≡ Number n → n < 10 ^ length l
 unfolding fieldOf
 field-below [] n e = no-number e
-field-below (b ∷ l) n e = go (eqb b 32) e (field-below l n)
-  where
-    begun : (t : Bool) → pick t (zeroOf l) (digitsOf 0 (b ∷ l)) ≡ Number n → n < 10 ^ suc (length l)
-    begun true h = omega (arith, zero-below l h, one-le-pow (suc (length l)) 10 (omega arith))
-    begun false h = omega (arith, digits-below (b ∷ l) 0 n h)
-
-    go : (t : Bool) → pick t (fieldOf l) (pick (eqb b 48) (zeroOf l) (digitsOf 0 (b ∷ l))) ≡ Number n
-        → (fieldOf l ≡ Number n → n < 10 ^ length l) → n < 10 ^ suc (length l)
-    go true h rest = omega (arith, rest h, pow-suc 10 (length l))
-    go false h rest = begun (eqb b 48) h
+field-below (b ∷ l) n e =
+    either (λ (f : Field). f ≡ Number n → n < 10 ^ suc (length l)) (eqb b 32)
+    (λ h. omega (arith, field-below l n h, pow-suc 10 (length l)))
+    (either (λ (f : Field). f ≡ Number n → n < 10 ^ suc (length l)) (eqb b 48)
+    (λ h. omega (arith, zero-below l h, one-le-pow (suc (length l)) 10 (omega arith)))
+    (λ h. omega (arith, digits-below (b ∷ l) 0 n h)))
+    e

@@ -1,6 +1,5 @@
--- A column written from its last digit to its first, and how columns follow each other.
+-- A field written from its last digit to its first, and how fields follow each other.
 -- Assumes nothing.
-use mathlib.Core.Bool.{Bool, true, false}
 use mathlib.Core.List.{List, [], _∷_, _++_, append-assoc, append-nil}
 use mathlib.Core.Path.{_≡_, refl, sym, ap, _∙_}
 use Prim.Native.Nat.{ℕ, zero, suc, _+_, _-_, _/_, _%_, _<_, _≤_}
@@ -9,11 +8,12 @@ use native.Mathlib.Omega.{arith}
 use borrow.Author.Tests.{le-leb, lt-leb, leb-true}
 use lib.Dec.{leb}
 use lib.ListN.{length, take, drop, set, length-append, length-drop, length-set, take-append-drop}
-use lib.Seq.{drop-cons, take-set-le, take-take, drop-set-lt, getD-set-same, append-snoc, take-at, length-take-le}
-use Rattle.common.specs.Choice.{pick}
+use lib.Seq.{set-split, drop-at, take-set-le, take-take, append-snoc, take-at, length-take-le}
+use Rattle.common.proofs.Tests.{by-test}
+use Rattle.common.proofs.Choice.{either}
 use Rattle.text.specs.Column.{glyphOf, frontOf, columnOf, putAt}
 
-pub length-front : (w v : ℕ) → length (frontOf w v) ≡ w
+length-front : (w v : ℕ) → length (frontOf w v) ≡ w
 unfolding frontOf
 length-front zero v = refl
 length-front (suc w) v = length-append (frontOf w (v / 10)) _ ∙ omega (arith, length-front w (v / 10))
@@ -26,12 +26,10 @@ length-column (suc w) v = length-append (frontOf w (v / 10)) _ ∙ omega (arith,
 -- a store at k, seen from k
 drop-set : (l : List ℕ) (k g : ℕ) → k < length l → drop k (set l k g) ≡ g ∷ drop (suc k) l
 drop-set l k g h =
-    drop-cons (set l k g) k 0 (rw (length-set l k g) h)
-    ∙ ap (λ (x : ℕ). x ∷ drop (suc k) (set l k g)) (getD-set-same l k g 0 h)
-    ∙ ap (λ (r : List ℕ). g ∷ r) (drop-set-lt (suc k) l k g (omega arith))
+    ap (drop k) (set-split l k g h) ∙ drop-at (take k l) (g ∷ drop (suc k) l) k (length-take-le k l (omega arith))
 
 -- the loop's state: the columns from j on are written, those before are as they were, and `left` is what they are to say
-pub record Written (old : List ℕ) (at j left : ℕ) (rest now : List ℕ) : Type 0 where
+pub record ColumnsWritten (old : List ℕ) (at j left : ℕ) (rest now : List ℕ) : Type 0 where
   pub long : length now ≡ length old
   pub front : take (at + j) now ≡ take (at + j) old
   pub back : frontOf j left ++ drop (at + j) now ≡ rest
@@ -47,7 +45,7 @@ one-column old l k w left rest h p q = (
 
 -- one more column, to the left of those that are there
 pub column-more : (old l : List ℕ) (at j left g : ℕ) (rest : List ℕ) → 0 < j → at + j ≤ length l → g ≡ glyphOf left
-    → Written old at j left rest l → Written old at (j - 1) (left / 10) rest (set l (at + (j - 1)) g)
+    → ColumnsWritten old at j left rest l → ColumnsWritten old at (j - 1) (left / 10) rest (set l (at + (j - 1)) g)
 column-more old l at j left g rest h room e s =
     let k : at + j ≡ suc (at + (j - 1)) = omega arith in
     let m : suc (j - 1) ≡ j = omega arith in
@@ -71,21 +69,18 @@ column-done old l at w v h p q =
     ∙ sym (append-assoc (take at old) (frontOf w (v / 10) ++ ((48 + v % 10) ∷ [])) (drop (at + suc w) old))
 
 module _ (l : List ℕ) (at : ℕ) (bytes : List ℕ) where
-  pub put-fits : at + length bytes ≤ length l → putAt l at bytes ≡ take at l ++ bytes ++ drop (at + length bytes) l
+  put-fits : at + length bytes ≤ length l → putAt l at bytes ≡ take at l ++ bytes ++ drop (at + length bytes) l
   unfolding putAt
   put-fits h = rw (le-leb (at + length bytes) (length l) h)
 
-  pub put-short : length l < at + length bytes → putAt l at bytes ≡ l
+  put-short : length l < at + length bytes → putAt l at bytes ≡ l
   unfolding putAt
   put-short h = rw (lt-leb (at + length bytes) (length l) h)
 
 put-nothing : (l : List ℕ) (at : ℕ) → putAt l at [] ≡ l
 unfolding putAt
-put-nothing l at = go (leb (at + 0) (length l))
-  where
-    go : (t : Bool) → pick t (take at l ++ [] ++ drop (at + 0) l) l ≡ l
-    go true = rw (append-nil (take at l), add-zero at) (take-append-drop at l)
-    go false = refl
+put-nothing l at =
+    either (λ (x : List ℕ). x ≡ l) (leb (at + 0) (length l)) (rw (append-nil (take at l), add-zero at) (take-append-drop at l)) refl
 
 module _ (l : List ℕ) (at width v : ℕ) where
   pub put-no-column : width ≡ 0 → putAt l at (columnOf width v) ≡ l
@@ -100,7 +95,7 @@ module _ (l : List ℕ) (at width v : ℕ) where
       put-fits l at (columnOf width v) (rw (length-column width v) h)
       ∙ ap (λ (n : ℕ). take at l ++ columnOf width v ++ drop (at + n) l) (length-column width v)
 
-  -- what is there up to the end of the column
+  -- what is there up to the end of the field
   pub put-more : at + width ≤ length l → take (at + width) (putAt l at (columnOf width v)) ≡ take at l ++ columnOf width v
   put-more h =
       ap (take (at + width)) (put-column h)
@@ -109,11 +104,11 @@ module _ (l : List ℕ) (at width v : ℕ) where
 
 pub put-long : (l : List ℕ) (at : ℕ) (bytes : List ℕ) → length (putAt l at bytes) ≡ length l
 unfolding putAt
-put-long l at bytes = go (leb (at + length bytes) (length l)) refl
-  where
-    go : (t : Bool) → leb (at + length bytes) (length l) ≡ t → length (pick t (take at l ++ bytes ++ drop (at + length bytes) l) l) ≡ length l
-    go true e =
-        let room : at + length bytes ≤ length l = leb-true _ _ e in
-        length-append (take at l ++ bytes) (drop (at + length bytes) l)
-        ∙ omega (arith, length-append (take at l) bytes, length-take-le at l (omega arith), length-drop (at + length bytes) l)
-    go false e = refl
+put-long l at bytes =
+    by-test (leb (at + length bytes) (length l))
+    (λ e.
+    let room : at + length bytes ≤ length l = leb-true _ _ e in
+    rw e
+    (length-append (take at l ++ bytes) (drop (at + length bytes) l)
+    ∙ omega (arith, length-append (take at l) bytes, length-take-le at l (omega arith), length-drop (at + length bytes) l)))
+    (λ e. rw e)

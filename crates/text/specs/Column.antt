@@ -1,4 +1,4 @@
--- A number written in a column, right-justified.
+-- A number written in a field, right-justified. A column is one byte of it.
 -- Assumes nothing.
 use mathlib.Core.List.{List, [], _∷_, _++_}
 use Prim.Native.Nat.{ℕ, zero, suc, _+_, _/_, _%_}
@@ -15,7 +15,8 @@ unfoldable pub frontOf : ℕ → ℕ → List ℕ
 frontOf zero v = []
 frontOf (suc w) v = frontOf w (v / 10) ++ (glyphOf v ∷ [])
 
--- v in w columns, filled with spaces on the left; the last column always has a digit
+-- v in w columns, filled with spaces on the left; the last always has a digit. Of a longer number only the last w digits
+-- (in the listing none occurs: case_line/proofs/Wide)
 unfoldable pub columnOf : ℕ → ℕ → List ℕ
 columnOf zero v = []
 columnOf (suc w) v = frontOf w (v / 10) ++ ((48 + v % 10) ∷ [])

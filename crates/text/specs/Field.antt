@@ -1,4 +1,4 @@
--- Document 01, "The case file": the number that a column says. Spaces fill it on the left, and a number has one spelling only.
+-- Document 01, "The case file": the number that a field says. Spaces fill it on the left, and a number has one spelling only.
 -- Assumes nothing.
 use mathlib.Core.List.{List, [], _∷_}
 use Prim.Native.Nat.{ℕ, _+_, _*_, _-_}
@@ -7,7 +7,7 @@ use Rattle.common.specs.Choice.{pick}
 use Rattle.text.specs.declared.Field.{Field}
 use Rattle.text.specs.declared.Field.the-variants.{Number, NoNumber}
 
--- digits and nothing else, after those that say v; at most nine in all, and no column of the case file is so wide
+-- digits and nothing else, after those that say v; at most nine in all, and no field of the case file is so wide
 unfoldable pub digitsOf : ℕ → List ℕ → Field
 digitsOf v [] = Number v
 digitsOf v (b ∷ bs) =

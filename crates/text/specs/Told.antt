@@ -1,4 +1,4 @@
--- What the steps of reading a column promise each other.
+-- What the steps of reading a field promise each other.
 -- Assumes nothing.
 use mathlib.Core.List.{List}
 use mathlib.Core.Path.{_≡_}
@@ -6,7 +6,7 @@ use Prim.Native.Nat.{ℕ, _≤_, _<_}
 use lib.ListN.{length, getD, drop}
 use Rattle.text.specs.Field.{fieldOf}
 
--- r bytes in front are spaces, and the next one, if any, is not
+-- the field says the same without its first r bytes, and the next byte, if any, is no space
 pub record Spaces (l : List ℕ) (r : ℕ) : Type 0 where
   pub within : r ≤ length l
   pub skipped : fieldOf l ≡ fieldOf (drop r l)

@@ -1,4 +1,4 @@
-// Numbers in columns of text, read and written.
+// Numbers in fields of text, read and written.
 ghost use mathlib.Core.Path.{_≡_};
 ghost use Prim.Native.Nat.{_+_, _<_, _≤_};
 ghost use mathlib.Core.List.{_++_};
@@ -7,7 +7,7 @@ ghost use Rattle.text.specs.Field.{digitsOf, fieldOf};
 ghost use Rattle.text.specs.Column.{glyphOf, columnOf, putAt};
 ghost use Rattle.text.specs.Told.{Spaces};
 
-// What a column says.
+// What a field says.
 pub enum Field {
     Number(u32),
     NoNumber,
@@ -19,6 +19,7 @@ const ZERO: u8 = b'0';
 
 const NINE: u8 = b'9';
 
+// How many bytes in front are spaces.
 fn spaces_in_front(part: &[u8]) -> usize
     ensures { λ r. ⌜ Spaces (now (part .entry)) r ⌝ }
 {
@@ -32,6 +33,7 @@ fn spaces_in_front(part: &[u8]) -> usize
     i
 }
 
+// The number that the bytes from start on say, if all are digits.
 fn digits_from(part: &[u8], start: usize) -> Field
     requires { ⌜ start ≤ length (now part) ⌝ }
     ensures { λ r. ⌜ r ≡ digitsOf 0 (drop start (now (part .entry))) ⌝ }
@@ -46,6 +48,7 @@ fn digits_from(part: &[u8], start: usize) -> Field
         if NINE < b {
             return Field::NoNumber;
         }
+        // A tenth digit might not fit 32 bits.
         if 99999999 < value {
             return Field::NoNumber;
         }
@@ -55,7 +58,7 @@ fn digits_from(part: &[u8], start: usize) -> Field
     Field::Number(value)
 }
 
-// The number that the whole of a part says.
+// The number that the whole of a part says, as one field.
 pub fn number_in(part: &[u8]) -> Field
     ensures { λ r. ⌜ r ≡ fieldOf (now (part .entry)) ⌝ }
 {
@@ -72,7 +75,7 @@ pub fn number_in(part: &[u8]) -> Field
     digits_from(part, start)
 }
 
-// The last digit of what is left of a number.
+// The last digit of what is left of a number; a space where nothing is left.
 fn glyph(left: u64) -> u8
     ensures { λ r. ⌜ r ≡ glyphOf left ⌝ }
 {
@@ -82,7 +85,7 @@ fn glyph(left: u64) -> u8
     (48 + left % 10) as u8
 }
 
-// From the last digit to the first.
+// v in the columns from at, filled from the last digit to the first.
 fn put_digits(out: &mut [u8], at: usize, width: usize, v: u64)
     requires { ⌜ (0 < width) × (at + width ≤ length (now out)) ⌝ }
     ensures { λ _. ⌜ now (out .exit) ≡ take at (now (out .entry)) ++ columnOf width v ++ drop (at + width) (now (out .entry)) ⌝ }
@@ -98,7 +101,7 @@ fn put_digits(out: &mut [u8], at: usize, width: usize, v: u64)
     }
 }
 
-// v in the columns from at, where all of them are there.
+// v in the columns from at, where all of them are there; else nothing is written.
 pub fn put_number(out: &mut [u8], at: usize, width: usize, v: u64)
     ensures { λ _. ⌜ now (out .exit) ≡ putAt (now (out .entry)) at (columnOf width v) ⌝ }
 {

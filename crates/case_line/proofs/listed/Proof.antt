@@ -1,4 +1,4 @@
--- `case_line::listed` meets its contract: seven columns one after the other, then the line end. z1 to z7 are the places after each.
+-- `case_line::listed` meets its contract: seven fields one after the other, then the line end. z1 to z7 are the places after each.
 -- Assumes nothing.
 use lib.Dec.{lit≤}
 use mathlib.Core.Path.{refl}

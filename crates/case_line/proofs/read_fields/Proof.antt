@@ -1,7 +1,8 @@
 -- `case_line::read_fields` meets its contract.
 -- Assumes nothing.
+use mathlib.Core.Bool.{true, false}
 use denote.Ref.{now}
-use Rattle.case_line.proofs.Reading.{fields-whole, fields-wrong}
+use Rattle.case_line.proofs.Reading.{fields-are}
 use borrow.Author.Needs.{needs}
 use Rattle.case_line.proofs.read_fields.Statement.{statement}
 use Rattle.case_line.proofs.read_fields.Tie as tie
@@ -40,7 +41,8 @@ returns c =
     let s3 = s4 .before in
     let s2 = s3 .before in
     let s1 = s2 .before in
-    fields-whole (now (s1 .before .before .args .line)) (s1 .said-in .ensures) (s2 .said-in2 .ensures) (s3 .said-in3 .ensures) (s4 .said-in4 .ensures) (s5 .said-in5 .ensures) (s6 .said-in6 .ensures) (s7 .said-in7 .ensures) (s8 .said-in8 .ensures) (c .if1 .taken)
+    fields-are (now (s1 .before .before .args .line)) (s1 .said-in .ensures) (s2 .said-in2 .ensures) (s3 .said-in3 .ensures)
+    (s4 .said-in4 .ensures) (s5 .said-in5 .ensures) (s6 .said-in6 .ensures) (s7 .said-in7 .ensures) (s8 .said-in8 .ensures) true (c .if1 .taken)
 
 returns-2 : tie.Need-returns-2
 returns-2 c =
@@ -52,7 +54,8 @@ returns-2 c =
     let s3 = s4 .before in
     let s2 = s3 .before in
     let s1 = s2 .before in
-    fields-wrong (now (s1 .before .before .args .line)) (s1 .said-in .ensures) (s2 .said-in2 .ensures) (s3 .said-in3 .ensures) (s4 .said-in4 .ensures) (s5 .said-in5 .ensures) (s6 .said-in6 .ensures) (s7 .said-in7 .ensures) (s8 .said-in8 .ensures) (c .if1 .left)
+    fields-are (now (s1 .before .before .args .line)) (s1 .said-in .ensures) (s2 .said-in2 .ensures) (s3 .said-in3 .ensures)
+    (s4 .said-in4 .ensures) (s5 .said-in5 .ensures) (s6 .said-in6 .ensures) (s7 .said-in7 .ensures) (s8 .said-in8 .ensures) false (c .if1 .left)
 
 pub read-fields-spec : {M : Type 1} → statement M
 read-fields-spec =

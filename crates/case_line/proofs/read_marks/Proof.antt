@@ -6,7 +6,7 @@ use native.Mathlib.Omega.{arith}
 use denote.Ref.{now}
 use lib.ListN.{length, getD}
 use Rattle.case_line.proofs.Range.{inside}
-use Rattle.case_line.proofs.Marks.{MarksRead, no-marks, mark-more, no-digit, marks-end}
+use Rattle.case_line.proofs.Marks.{MarksRead, not-all-digits, mark-more, no-digit, marks-end}
 use borrow.Author.Needs.{needs}
 use Rattle.case_line.proofs.read_marks.Statement.{statement}
 use Rattle.case_line.proofs.read_marks.Tie as tie
@@ -27,7 +27,9 @@ same-length : tie.Need-same-length Inv-loop μ-loop
 same-length c = c .before .before .before .loop .inv .long
 
 returns : tie.Need-returns Inv-loop μ-loop
-returns c = no-marks _ _ (c .before .before .before .loop .inv .digits ∙ no-digit _ _ (c .before .before .loop-test .taken) (c .if1 .taken))
+returns c =
+    not-all-digits _ _
+    (c .before .before .before .loop .inv .digits ∙ no-digit _ _ (c .before .before .loop-test .taken) (c .if1 .taken))
 
 digit : (c : tie.Else1 Inv-loop μ-loop)
     → (48 ≤ getD (now (c .before .before .before .before .args .digits)) (c .before .before .before .loop .i) 0)

@@ -4,7 +4,7 @@ use mathlib.Core.Path.{sym, ap, _∙_}
 use native.Mathlib.Omega.{arith}
 use lib.Seq.{length-take-le}
 use Rattle.case_line.specs.Line.{listedAs}
-use Rattle.case_line.proofs.Shapes.{no-marks, settled}
+use Rattle.case_line.proofs.Shapes.{wrong-marks, settled}
 use borrow.Author.Needs.{needs}
 use Rattle.case_line.proofs.settle_case.Statement.{statement}
 use Rattle.case_line.proofs.settle_case.Tie as tie
@@ -40,7 +40,7 @@ wrong-shape-requires : tie.Need-wrong-shape-requires
 wrong-shape-requires c κs = search needs
 
 returns-2 : tie.Need-returns-2
-returns-2 c = c .wrong-shape .ensures ∙ sym (no-marks _ (c .before .before .before .read-marks .ensures) (c .before .if1 .left))
+returns-2 c = c .wrong-shape .ensures ∙ sym (wrong-marks _ (c .before .before .before .read-marks .ensures) (c .before .if1 .left))
 
 pub settle-case-spec : {M : Type 1} → statement M
 settle-case-spec =

@@ -14,7 +14,6 @@ settle-line-requires c κs = search needs
 
 returns : tie.Need-returns
 returns c =
-    let x = c .before .before .before .before .args in
     let none = c .before .if1 .taken in
     c .settle-line .ensures ∙ rw none
 

@@ -10,7 +10,7 @@ use Rattle.casefile.proofs.settle_part.Statement.{statement}
 use Rattle.casefile.proofs.settle_part.Tie as tie
 
 found : (c : tie.After-find) → EndFound (now (c .before .before .before .before .args .chunk)) (c .before .before .before .before .args .at .taken) (c .find .result)
-found c = end-found _ _ (c .before .before .before .before .pre .1 .0) (c .find .ensures .0)
+found c = end-found _ _ (c .find .ensures .0) (c .find .ensures .1)
 
 find-requires : tie.Need-find-requires
 find-requires c κs = search needs

@@ -1,6 +1,6 @@
 -- `numbers::numbers_of` meets its contract.
 -- Assumes nothing.
-use mathlib.Core.Path.{_≡_, sym, ap}
+use mathlib.Core.Path.{sym, ap}
 use Rattle.settlement.specs.Settle.{numbersOf}
 use borrow.Author.Needs.{needs}
 use Rattle.numbers.proofs.numbers_of.Statement.{statement}

@@ -1,4 +1,4 @@
--- `settle_cases::print_last` meets its contract.
+-- `settle_cases::print_last` is safe.
 -- Assumes nothing.
 use mathlib.Core.Path.{_≡_, sym}
 use Prim.Native.Nat.{_≤_}

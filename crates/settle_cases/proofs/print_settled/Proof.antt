@@ -1,4 +1,4 @@
--- `settle_cases::print_settled` meets its contract: each call takes some of the chunk, so the loop ends.
+-- `settle_cases::print_settled` is safe and ends: each call takes some of the chunk.
 -- Assumes nothing.
 use mathlib.Core.Path.{_≡_, sym, _∙_}
 use Prim.Native.Nat.{_+_, _-_, _≤_, _<_}

@@ -1,7 +1,6 @@
--- `settle_cases::settle_input` meets its contract: the turns count down. The buffers keep their lengths.
+-- `settle_cases::settle_input` is safe and ends: the turns count down. The buffers keep their lengths.
 -- Assumes nothing.
 use mathlib.Core.Path.{_≡_}
-use native.Mathlib.Omega.{arith}
 use lib.ListN.{length}
 use borrow.Author.Needs.{needs}
 use Rattle.settle_cases.proofs.settle_input.Statement.{statement}

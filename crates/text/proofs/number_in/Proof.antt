@@ -1,6 +1,6 @@
 -- `text::number_in` meets its contract: past the spaces it is a blank, a digit 0 or other digits.
 -- Assumes nothing.
-use mathlib.Core.Path.{_≡_, sym, _∙_}
+use mathlib.Core.Path.{sym, _∙_}
 use Rattle.text.proofs.Reading.{blank, zero-alone, zero-leads, digits-begin}
 use borrow.Author.Needs.{needs}
 use Rattle.text.proofs.number_in.Statement.{statement}

@@ -1,20 +1,20 @@
 -- `text::put_digits` meets its contract. The invariant: the columns from j on are written.
 -- Assumes nothing.
 use mathlib.Core.Path.{_≡_, refl, _∙_}
-use Prim.Native.Nat.{suc, _+_, _-_, _*_, _/_, _%_, _≤_}
+use Prim.Native.Nat.{suc, _+_, _-_, _≤_}
 use native.Mathlib.Omega.{arith}
 use mathlib.Core.List.{_++_}
 use denote.Ref.{now}
 use lib.ListN.{length, drop, length-set}
 use Rattle.text.specs.Column.{frontOf}
-use Rattle.text.proofs.Writing.{Written, column-more, column-done}
-use Prim.Native.Nat.{_+_, _-_, _*_, _/_, _%_, _≤_}
+use Rattle.text.proofs.Writing.{ColumnsWritten, column-more, column-done}
 use borrow.Author.Needs.{needs}
 use Rattle.text.proofs.put_digits.Statement.{statement}
 use Rattle.text.proofs.put_digits.Tie as tie
 
 abbrev Inv-loop : tie.InvT-loop
-Inv-loop out₀ at width v last left₀ j₀ out left j = (j ≤ last) × Written out₀ at j left (frontOf last left₀ ++ drop (at + last) out₀) out
+Inv-loop out₀ at width v last left₀ j₀ out left j =
+    (j ≤ last) × ColumnsWritten out₀ at j left (frontOf last left₀ ++ drop (at + last) out₀) out
 
 abbrev μ-loop : tie.MeasureT-loop
 μ-loop out₀ at width v last left₀ j₀ out left j = j

@@ -1,6 +1,6 @@
 -- `text::put_number` meets its contract: where the columns are not all there, nothing is written.
 -- Assumes nothing.
-use mathlib.Core.Path.{_≡_, sym, _∙_}
+use mathlib.Core.Path.{sym, _∙_}
 use native.Mathlib.Omega.{arith}
 use denote.Ref.{now}
 use Rattle.text.proofs.Writing.{put-no-column, put-column-short, put-column}
