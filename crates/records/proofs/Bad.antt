@@ -22,7 +22,7 @@ abbrev answerOf : SettleNumbers → RecordCheck
 answerOf n = record { bad = not (eqb (n .refusal) 0); credit = pension (n .credit) }
 
 module _ (c : Contract) where
-  pub refused-bad : (settledRecord c .refusal ≡ 0 → ⊥) → badRecord c ≡ true
+  refused-bad : (settledRecord c .refusal ≡ 0 → ⊥) → badRecord c ≡ true
   unfolding badRecord
   refused-bad h = rw (ne-eqb (settledRecord c .refusal) 0 h)
 

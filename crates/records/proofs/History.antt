@@ -48,18 +48,18 @@ module _ (c : Contract) (m : ℕ) (full : length (c .marks) ≡ 240) (z : postRe
   pub posted-good : badRecord (postedRecord c m) ≡ false
   posted-good = rw is-next (good-record next next-good)
 
-  pub posted-full : length (postedRecord c m .marks) ≡ 240
+  posted-full : length (postedRecord c m .marks) ≡ 240
   unfolding next
   posted-full = rw (is-next, length-set) full
 
   pub posted-marks : usedMarks (postedRecord c m) ≡ usedMarks c ++ (m ∷ [])
   posted-marks = rw is-next next-marks
 
-  pub posted-terms : postedRecord c m .terms ≡ c .terms
+  posted-terms : postedRecord c m .terms ≡ c .terms
   unfolding next
   posted-terms = rw is-next
 
-  pub posted-count : postedRecord c m .count ≡ suc (c .count)
+  posted-count : postedRecord c m .count ≡ suc (c .count)
   unfolding next
   posted-count = rw is-next (add-one (c .count))
 
