@@ -1,4 +1,4 @@
--- Marks that are all 0 from an index on, and from the next one on.
+-- Marks that are all 0 from an index on, and the step to the next index.
 -- Assumes nothing.
 use mathlib.Core.Bool.{Bool, true, false, _&&_}
 use mathlib.Core.List.{List, [], _∷_}
