@@ -1,6 +1,6 @@
 /*
  * Quotes and settles a few contracts and prints how each stands. Every buffer and every list of marks is a piece of memory of
- * just the length that is passed, so that a memory checker sees a byte read or written beyond it.
+ * just the length that is passed (of one byte where that is 0), so that a memory checker sees a byte read or written beyond it.
  */
 #include "additional_pension.h"
 
@@ -24,10 +24,11 @@ static const char *const STATUSES[] = {
     "not started", "paying", "in a gap", "complete", "ceased", "refunded", "lump sum",
 };
 
+/* A piece of memory. It is never null, also where the length is 0: no null pointer may be lent. */
 static void *memory(size_t length)
 {
-    void *piece = malloc(length);
-    if (piece == NULL && length > 0) {
+    void *piece = malloc(length > 0 ? length : 1);
+    if (piece == NULL) {
         fprintf(stderr, "There is no memory left.\n");
         exit(EXIT_FAILURE);
     }
@@ -75,21 +76,29 @@ static void quote(const struct terms *terms, uint64_t existing_pence, uint32_t *
     free(result);
 }
 
-/* Settles a contract whose marks are given as digits. */
-static void settle(const struct terms *terms, const char *digits)
+/* Settles a contract whose marks are given as digits. The value is the refusal. */
+static uint32_t settle_into(const struct terms *terms, const char *digits, uint8_t *result, size_t length)
 {
     size_t count = strlen(digits);
     uint8_t *marks = memory(count);
-    uint8_t *result = memory(AP_SETTLE_BYTES);
     uint32_t refusal;
 
     for (size_t month = 0; month < count; month++)
         marks[month] = (uint8_t)(digits[month] - '0');
     refusal = ap_settle(terms->age, terms->pnpa_years, terms->pnpa_months, terms->option, terms->payer, terms->term,
-                        terms->amount, marks, count, result, AP_SETTLE_BYTES);
+                        terms->amount, marks, count, result, length);
+    free(marks);
+    return refusal;
+}
+
+/* Settles and prints how the contract stands. */
+static void settle(const struct terms *terms, const char *digits)
+{
+    uint8_t *result = memory(AP_SETTLE_BYTES);
+    uint32_t refusal = settle_into(terms, digits, result, AP_SETTLE_BYTES);
     printf("Settle: ");
     print_terms(terms);
-    printf("  marks %s\n", count > 0 ? digits : "none");
+    printf("  marks %s\n", digits[0] != '\0' ? digits : "none");
     if (refusal != AP_REFUSED_NOTHING) {
         printf("  refused %" PRIu32 " at %" PRIu64 ": %s\n\n", refusal, number(result, AP_SETTLE_PLACE), REFUSALS[refusal]);
     } else {
@@ -100,7 +109,6 @@ static void settle(const struct terms *terms, const char *digits)
         printf("\n");
     }
     free(result);
-    free(marks);
 }
 
 /* A buffer that is a byte too short keeps what it holds. */
@@ -112,8 +120,7 @@ static void short_buffer(const struct terms *terms)
     size_t kept = 0;
 
     memset(result, 0xa5, length);
-    refusal = ap_settle(terms->age, terms->pnpa_years, terms->pnpa_months, terms->option, terms->payer, terms->term,
-                        terms->amount, (const uint8_t *)"", 0, result, length);
+    refusal = settle_into(terms, "", result, length);
     while (kept < length && result[kept] == 0xa5)
         kept++;
     printf("Settle into %zu bytes\n  refused %" PRIu32 ": %s, %zu bytes kept\n", length, refusal, REFUSALS[refusal], kept);

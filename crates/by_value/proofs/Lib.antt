@@ -1,1 +1,2 @@
+pub mod Local
 pub mod First

@@ -14,6 +14,7 @@ pub struct Outcome {
     pub contract: Contract,
 }
 
+// Posts a mark into a record that is given, and gives the record back.
 pub fn post_into(c: Contract, mark: u8) -> Outcome
     ensures { λ r. ⌜ (r .posted ≡ postOf c mark) × (r .contract ≡ postedRecord c mark) ⌝ }
 {
@@ -25,6 +26,7 @@ pub fn post_into(c: Contract, mark: u8) -> Outcome
     }
 }
 
+// n, or 65 where n is more.
 fn at_most_65(n: usize) -> usize
     ensures { λ r. ⌜ r ≡ min n 65 ⌝ }
 {
@@ -34,7 +36,7 @@ fn at_most_65(n: usize) -> usize
     65
 }
 
-// The total of the first n records, or of all where n is more.
+// The total of the first n records, or of all where n is more. 65 are one more than a total takes, so that 14 can be met.
 pub fn total_of_first(records: [Contract; 65], n: usize) -> Total
     ensures { λ r. ⌜ r ≡ memberTotalOf (take n records) ⌝ }
 {

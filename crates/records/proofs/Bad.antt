@@ -1,7 +1,7 @@
 -- A record is bad by any of three faults, and not bad where it has none.
 -- Assumes nothing.
 use mathlib.Core.Bool.{Bool, true, false, not, _||_}
-use mathlib.Core.Path.{_≡_, refl, ap, _∙_}
+use mathlib.Core.Path.{_≡_, refl, sym, ap, _∙_}
 use Prim.Native.Nat.{_<_, _≤_}
 use borrow.Author.Tests.{lt-ltb, le-ltb, eq-eqb, ne-eqb, ltb-false, eqb-true, eqb-false, not-false}
 use lib.Dec.{ltb, eqb}
@@ -22,7 +22,7 @@ abbrev answerOf : SettleNumbers → RecordCheck
 answerOf n = record { bad = not (eqb (n .refusal) 0); credit = pension (n .credit) }
 
 module _ (c : Contract) where
-  pub refused-bad : (settledRecord c .refusal ≡ 0 → ⊥) → badRecord c ≡ true
+  refused-bad : (settledRecord c .refusal ≡ 0 → ⊥) → badRecord c ≡ true
   unfolding badRecord
   refused-bad h = rw (ne-eqb (settledRecord c .refusal) 0 h)
 
@@ -76,9 +76,10 @@ module _ (c : Contract) where
   pub told-check : (n : SettleNumbers) → n ≡ settledRecord c → c .count ≤ 240 → allZero (unusedMarks c) ≡ true → answerOf n ≡ checkOf c
   told-check n e few zeros = ap answerOf e ∙ settled-check few zeros
 
-  pub check-bad : {r : RecordCheck} → r ≡ checkOf c → r .bad ≡ badRecord c
+  -- the check's answer on a record is the definition's
+  pub check-says : {r : RecordCheck} {b : Bool} → r ≡ checkOf c → r .bad ≡ b → badRecord c ≡ b
   unfolding checkOf
-  check-bad e = ap (λ (r : RecordCheck). r .bad) e
+  check-says e h = sym (ap (λ (r : RecordCheck). r .bad) e) ∙ h
 
   pub check-credit : {r : RecordCheck} → r ≡ checkOf c → badRecord c ≡ false → r .credit ≡ pension (settledRecord c .credit)
   unfolding checkOf

@@ -1,37 +1,25 @@
 -- A posted history is a settled list: a fresh record holds the marks that are posted into it one after the other, none
 -- being refused. The record that a posting leaves is never bad. And every list that Settle accepts can be posted.
 -- Assumes nothing.
-use mathlib.Core.Bool.{Bool, true, false, _&&_}
+use mathlib.Core.Bool.{false}
 use mathlib.Core.List.{List, [], _∷_, _++_, append-nil}
-use mathlib.Core.Path.{_≡_, refl, sym, ap, subst, _∙_}
-use Prim.Native.Nat.{ℕ, zero, suc, _+_}
+use mathlib.Core.Path.{_≡_, refl, sym, _∙_}
+use Prim.Native.Nat.{ℕ, suc, _+_}
 use native.Mathlib.Numerals.{add-one}
 use native.Mathlib.Omega.{arith}
-use lib.Dec.{T, eqb}
-use lib.ListN.{length, drop, length-set}
+use lib.ListN.{length, length-set}
 use lib.Seq.{append-snoc, drop-set-lt, take-suc-set, take-append-seam}
 use Rattle.terms.specs.declared.Terms.{Terms}
-use Rattle.marks.proofs.Term.{marks-counts, lawful-for-take}
-use Rattle.marks.specs.declared.Reading.{Reading}
 use Rattle.settlement.specs.Settle.{settleOf}
-use Rattle.examination.proofs.Laws.{terms-pass, refused-by-marks, lawful}
+use Rattle.examination.proofs.Laws.{refusal-take}
 use Rattle.settlement.proofs.Laws.{settle-refusal}
 use Rattle.records.specs.declared.Contract.{Contract}
 use Rattle.records.specs.Record.{usedMarks, allZero, badRecord}
 use Rattle.records.specs.Post.{postRefusal, postOf, written, postedRecord}
 use Rattle.records.specs.History.{freshRecord, postedAll, NoneRefused, Holds}
+use Rattle.records.proofs.Zeros.{zeros-further}
 use Rattle.records.proofs.Bad.{Good, good-record, not-bad}
 use Rattle.records.proofs.Posting.{taken, good-refused, success-record}
-
-zeros-further : (ms : List ℕ) (i : ℕ) → allZero (drop i ms) ≡ true → allZero (drop (suc i) ms) ≡ true
-unfolding allZero
-zeros-further [] i e = refl
-zeros-further (m ∷ ms) zero e = go (eqb m 0) e
-  where
-    go : (b : Bool) → (b && allZero ms) ≡ true → allZero ms ≡ true
-    go true e = e
-    go false e = absurd (subst T (sym e) tt)
-zeros-further (m ∷ ms) (suc i) e = zeros-further ms i e
 
 -- One posting that is not refused, into a record of 240 marks, as every record in memory is.
 module _ (c : Contract) (m : ℕ) (full : length (c .marks) ≡ 240) (z : postRefusal c m ≡ 0) where
@@ -60,18 +48,18 @@ module _ (c : Contract) (m : ℕ) (full : length (c .marks) ≡ 240) (z : postRe
   pub posted-good : badRecord (postedRecord c m) ≡ false
   posted-good = rw is-next (good-record next next-good)
 
-  pub posted-full : length (postedRecord c m .marks) ≡ 240
+  posted-full : length (postedRecord c m .marks) ≡ 240
   unfolding next
   posted-full = rw (is-next, length-set) full
 
   pub posted-marks : usedMarks (postedRecord c m) ≡ usedMarks c ++ (m ∷ [])
   posted-marks = rw is-next next-marks
 
-  pub posted-terms : postedRecord c m .terms ≡ c .terms
+  posted-terms : postedRecord c m .terms ≡ c .terms
   unfolding next
   posted-terms = rw is-next
 
-  pub posted-count : postedRecord c m .count ≡ suc (c .count)
+  posted-count : postedRecord c m .count ≡ suc (c .count)
   unfolding next
   posted-count = rw is-next (add-one (c .count))
 
@@ -110,11 +98,8 @@ posted-history t ms none =
 -- the first marks of a list that Settle accepts
 accepted-first : (t : Terms) (xs ys : List ℕ) → settleOf t (xs ++ ys) .refusal ≡ 0 → settleOf t xs .refusal ≡ 0
 accepted-first t xs ys e =
-    let z = sym (settle-refusal t (xs ++ ys)) ∙ e in
-    let part = rw (take-append-seam xs ys) at (lawful-for-take (t .term) (xs ++ ys) (length xs) (lawful t (xs ++ ys) z)) in
     settle-refusal t xs
-    ∙ refused-by-marks t xs (terms-pass t (xs ++ ys) z)
-    ∙ ap (λ (r : Reading). r .refusal) (marks-counts (t .term) xs part)
+    ∙ rw (take-append-seam xs ys) at (refusal-take t (xs ++ ys) (sym (settle-refusal t (xs ++ ys)) ∙ e) (length xs))
 
 postable : (c : Contract) (ms : List ℕ) → length (c .marks) ≡ 240 → badRecord c ≡ false
     → settleOf (c .terms) (usedMarks c ++ ms) .refusal ≡ 0 → NoneRefused c ms

@@ -24,8 +24,11 @@ use Rattle.records.specs.Post.{postRefusal, placeOf, postOf, written, po
 use Rattle.records.proofs.Bad.{not-bad}
 
 -- terms that Settle accepts with some marks it refuses with others by the marks alone
-by-the-marks : (t : Terms) (ms ns : List ℕ) → settleOf t ms .refusal ≡ 0 → settleOf t ns .refusal ≡ marksOf (t .term) ns .refusal
-by-the-marks t ms ns e = settle-refusal t ns ∙ refused-by-marks t ns (terms-pass t ms (sym (settle-refusal t ms) ∙ e))
+refused-with : (t : Terms) (ms ns : List ℕ) → settleOf t ms .refusal ≡ 0 → settleOf t ns .refusal ≡ marksOf (t .term) ns .refusal
+refused-with t ms ns e = settle-refusal t ns ∙ refused-by-marks t ns (terms-pass t ms (sym (settle-refusal t ms) ∙ e))
+
+pub used-length : (c : Contract) → length (c .marks) ≡ 240 → badRecord c ≡ false → length (usedMarks c) ≡ c .count
+used-length c full b = length-take-le (c .count) (c .marks) (omega (arith, not-bad c b .few))
 
 module _ (c : Contract) (m : ℕ) where
   -- the marks with the new one
@@ -41,22 +44,19 @@ module _ (c : Contract) (m : ℕ) where
   good-refused b = rw b
 
   by-marks : badRecord c ≡ false → postRefusal c m ≡ marksOf (c .terms .term) more .refusal
-  by-marks b = good-refused b ∙ by-the-marks (c .terms) (usedMarks c) more (not-bad c b .settled)
+  by-marks b = good-refused b ∙ refused-with (c .terms) (usedMarks c) more (not-bad c b .settled)
 
   module _ (full : length (c .marks) ≡ 240) where
-    pub used-length : badRecord c ≡ false → length (usedMarks c) ≡ c .count
-    used-length b = length-take-le (c .count) (c .marks) (omega (arith, not-bad c b .few))
-
     pub over-refused : badRecord c ≡ false → 12 * c .terms .term ≤ c .count → postRefusal c m ≡ 10
     over-refused b h =
         by-marks b
         ∙ ap (λ (r : Reading). r .refusal)
-        (too-many (c .terms .term) more (omega (arith, length-last (usedMarks c) m, used-length b)))
+        (too-many (c .terms .term) more (omega (arith, length-last (usedMarks c) m, used-length c full b)))
 
     pub mark-refused : badRecord c ≡ false → c .count < 12 * c .terms .term
         → postRefusal c m ≡ stepBy oneMore (marksOf (c .terms .term) (usedMarks c)) m .refusal
     mark-refused b h =
-        let n = used-length b in
+        let n = used-length c full b in
         let most = not-bad c b .few in
         by-marks b
         ∙ ap (λ (r : Reading). r .refusal)
@@ -71,14 +71,14 @@ module _ (c : Contract) (m : ℕ) where
     pub taken : postRefusal c m ≡ 0 → Taken
     taken z =
         by-test (badRecord c)
-        (λ b. absurd (let no : ⊥ = omega (arith, bad-refused b) in no))
+        (λ b. absurd (omega (arith, bad-refused b)))
         (λ b.
         let ok = sym (good-refused b) ∙ z in
         record {
           good = b;
           accepted = ok;
           room =
-              omega (arith, few (c .terms) more (sym (settle-refusal (c .terms) more) ∙ ok), length-last (usedMarks c) m, used-length b);
+              omega (arith, few (c .terms) more (sym (settle-refusal (c .terms) more) ∙ ok), length-last (usedMarks c) m, used-length c full b);
         })
 
 -- What posting answers and leaves.
@@ -97,6 +97,6 @@ module _ (c : Contract) (m : ℕ) where
   unfolding postedRecord
   refusal-record h = rw (ne-eqb (postRefusal c m) 0 h)
 
-  -- what stands there, written once more, changes nothing
-  pub unchanged : (i : ℕ) → written c i (getD (c .marks) i 0) (c .count) ≡ c
-  unchanged i = ap (λ (ms : List ℕ). record { terms = c .terms; marks = ms; count = c .count }) (set-getD (c .marks) i 0)
+-- what stands there, written once more, changes nothing
+pub unchanged : (c : Contract) (i : ℕ) → written c i (getD (c .marks) i 0) (c .count) ≡ c
+unchanged c i = ap (λ (ms : List ℕ). record { terms = c .terms; marks = ms; count = c .count }) (set-getD (c .marks) i 0)

@@ -73,7 +73,7 @@ pub fn check_record(c: Contract) -> RecordCheck
 }
 
 // 13 for a bad record; then 10, 11 or 12 as the marks with the new one are refused.
-fn refuse_post(c: Contract, mark: u8) -> u32
+fn post_refusal(c: Contract, mark: u8) -> u32
     ensures { λ r. ⌜ r ≡ postRefusal c mark ⌝ }
 {
     let check = check_record(c);
@@ -102,11 +102,11 @@ fn place(refusal: u32, count: usize) -> usize
     0
 }
 
-// A refusal writes what stands there already, so that posting goes one way.
+// A refusal writes what stands there already, so that `post` has no branch.
 fn decide(c: Contract, mark: u8) -> Entry
     ensures { λ r. ⌜ Decided c mark r ⌝ }
 {
-    let refusal = refuse_post(c, mark);
+    let refusal = post_refusal(c, mark);
     let count = c.count;
     let posted = Posted {
         refusal,

@@ -33,7 +33,7 @@ at cs i = getD cs i blank
 sum-more : (cs : List Contract) (i : ℕ) → i < length cs
     → creditSum (take (suc i) cs) ≡ creditSum (take i cs) + settledRecord (at cs i) .credit
 unfolding creditSum
-sum-more [] i h = absurd (let no : ⊥ = omega arith in no)
+sum-more [] i h = absurd (omega arith)
 sum-more (c ∷ cs) zero h = omega arith
 sum-more (c ∷ cs) (suc i) h = omega (arith, sum-more cs i (omega arith))
 
@@ -55,7 +55,7 @@ good-more (c ∷ cs) (suc i) h g b =
 first-bad : (cs : List Contract) (i : ℕ) → i < length cs → anyBad (take i cs) ≡ false → badRecord (at cs i) ≡ true
     → (anyBad cs ≡ true) × (firstBadRecord cs ≡ i)
 unfolding anyBad firstBadRecord
-first-bad [] i h g b = absurd (let no : ⊥ = omega arith in no)
+first-bad [] i h g b = absurd (omega arith)
 first-bad (c ∷ cs) zero h g b = (rw b, rw b)
 first-bad (c ∷ cs) (suc i) h g b =
     let both = or-false (badRecord c) (anyBad (take i cs)) g in
@@ -78,11 +78,11 @@ stands-first cs t e = go (ltb 64 (length cs)) refl
 
 module _ (cs : List Contract) (i : ℕ) (t : Tally) where
   pub stands-inside : Stands cs i t → i < t .end → i < length cs
-  stands-inside (over z e) h = absurd (let no : ⊥ = omega arith in no)
+  stands-inside (over z e) h = absurd (omega arith)
   stands-inside (going l m g e) h = omega (arith, ap (λ (t : Tally). t .end) e)
 
   pub stands-bound : Stands cs i t → i < t .end → t .total .credit .0 ≤ 64 * capPence
-  stands-bound (over z e) h = absurd (let no : ⊥ = omega arith in no)
+  stands-bound (over z e) h = absurd (omega arith)
   stands-bound (going l m g e) h =
       omega (arith, ap (λ (t : Tally). t .total .credit .0) e, sum-most (take i cs), length-take-le i cs l)
 
@@ -95,7 +95,7 @@ module _ (cs : List Contract) (i : ℕ) (t : Tally) where
 
   pub stands-next : Stands cs i t → i < t .end → (r : Tally) → r ≡ addOf t (at cs i) i → Stands cs (i + 1) r
   unfolding addOf memberTotalOf
-  stands-next (over z e) h r d = absurd (let no : ⊥ = omega arith in no)
+  stands-next (over z e) h r d = absurd (omega arith)
   stands-next (going l m g e) h r d = go (badRecord (at cs i)) refl
     where
       inside : i < length cs

@@ -17,7 +17,7 @@ unfoldable pub creditSum : List Contract → ℕ
 creditSum [] = 0
 creditSum (c ∷ cs) = settledRecord c .credit + creditSum cs
 
--- whether a record is bad
+-- whether any of the records is bad
 unfoldable pub anyBad : List Contract → Bool
 anyBad [] = false
 anyBad (c ∷ cs) = badRecord c || anyBad cs

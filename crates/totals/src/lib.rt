@@ -6,14 +6,14 @@ ghost use Rattle.totals.specs.Total.{openingOf, addOf, memberTotalOf};
 use money::PensionPence;
 use records::Contract;
 
-// What a total answers; the index is that of a bad record.
+// What a total answers; the index is that of the first bad record, else 0.
 pub struct Total {
     pub refusal: u32,
     pub index: usize,
     pub credit: PensionPence,
 }
 
-// A total so far, and the index at which the records to be added end; a refusal leaves none.
+// A total so far, and the index before which records are still added: 0 after a refusal, which ends the loop.
 struct Tally {
     end: usize,
     total: Total,

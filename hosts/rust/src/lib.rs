@@ -35,7 +35,7 @@ pub use terms::{Payer, PensionAge, PensionOption, Status, Terms, ENDED, MISSED, 
 pub struct Quote {
     /// The lump sum, or what is paid each month.
     pub contribution: Contribution,
-    /// The quote's number, which the register now holds.
+    /// The quote's number; the host stores it in its register.
     pub next_number: u32,
 }
 

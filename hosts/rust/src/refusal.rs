@@ -13,9 +13,9 @@ pub enum Refusal {
     Term,
     /// 4: the payer is neither of the two, or an employer pays by the month.
     Payer,
-    /// 5: nothing is printed for the age, in Table S or in the only or lower monthly table.
+    /// 5: nothing is printed for the age in Table S, or for this age and term in the only or lower monthly table.
     NoRate,
-    /// 6: nothing is printed in the upper monthly table.
+    /// 6: nothing is printed for this age and term in the upper monthly table.
     NoUpperRate,
     /// 7: the amount is 0 or not a multiple of £250.
     Amount,
@@ -82,8 +82,8 @@ impl fmt::Display for Refusal {
             Refusal::PensionAge => write!(formatter, "the pension age is outside its range"),
             Refusal::Term => write!(formatter, "the term is above 20 years"),
             Refusal::Payer => write!(formatter, "the payer is unknown, or an employer pays by the month"),
-            Refusal::NoRate => write!(formatter, "there is no rate for this age"),
-            Refusal::NoUpperRate => write!(formatter, "there is no rate for this age at the upper pension age"),
+            Refusal::NoRate => write!(formatter, "there is no rate for this age and term"),
+            Refusal::NoUpperRate => write!(formatter, "there is no rate for this age and term at the upper pension age"),
             Refusal::Amount => write!(formatter, "the amount is not a multiple of £250"),
             Refusal::AboveCap => write!(formatter, "the pension would be above the cap"),
             Refusal::NumbersUsedUp => write!(formatter, "the quote numbers are used up"),

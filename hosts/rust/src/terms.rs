@@ -77,9 +77,9 @@ pub enum Status {
     InGap,
     /// 3: every month of the term is paid.
     Complete,
-    /// 4: stopped after the first year; the credit stays.
+    /// 4: stopped, the last paid month being the twelfth or later; the credit stays.
     Ceased,
-    /// 5: stopped within the first year; the contributions go back.
+    /// 5: stopped, with the last paid month before the twelfth or none; the contributions go back and the credit is 0.
     Refunded,
     /// 6: a lump sum, credited in full.
     LumpSum,

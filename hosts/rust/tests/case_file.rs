@@ -15,8 +15,7 @@ const LINES: u32 = 200_000;
 const SOUND: &[u8] = b"     1 50 67  0 2 1  9   125011111";
 
 fn lines() -> u32 {
-    let given = env::var("AP_LINES").ok();
-    given.map_or(LINES, |number| number.parse().expect("AP_LINES is a number"))
+    samples::how_many("AP_LINES", LINES)
 }
 
 fn program() -> PathBuf {

@@ -7,19 +7,13 @@
 use additional_pension::raw::{self, Numbers};
 use reference::samples::{self, Random};
 use reference::Terms;
-use std::env;
 use std::fmt::Debug;
 
 const SEED: u64 = 20_150_331;
-const INPUTS: u64 = 2_000_000;
+const INPUTS: u32 = 2_000_000;
 
 /// Bytes on either side of a lent piece of memory.
 const MARGIN: usize = 64;
-
-fn inputs() -> u64 {
-    let given = env::var("AP_INPUTS").ok();
-    given.map_or(INPUTS, |number| number.parse().expect("AP_INPUTS is a number"))
-}
 
 /// Memory of which a piece is lent: what stands around it must stay.
 struct Lent {
@@ -154,7 +148,7 @@ fn made_up_inputs() {
     let mut random = Random::new(SEED);
     let mut quotes = Tally::default();
     let mut settlements = Tally::default();
-    for _ in 0..inputs() / 2 {
+    for _ in 0..samples::how_many("AP_INPUTS", INPUTS) / 2 {
         let terms = samples::terms(&mut random);
         let existing = samples::existing(&mut random, terms.amount);
         let last_number = samples::last_number(&mut random);
@@ -174,8 +168,9 @@ fn made_up_inputs() {
     assert_eq!(quotes.differences + settlements.differences, 0);
 }
 
-/// Every age, pension age, option and term, in and about their ranges, with an amount that changes from one to the next: so
-/// every printed rate is used, as a whole-year credit too.
+/// Every age, pension age, option and term, in and about their ranges, with an amount that changes from one to the next. At a
+/// whole pension age every number of whole years is settled too: so every printed rate prices an election and makes a
+/// whole-year credit.
 #[test]
 fn every_election() {
     let mut random = Random::new(SEED);
@@ -191,6 +186,10 @@ fn every_election() {
                 let count = random.from_to(0, 12 * term) as usize;
                 let marks = samples::lawful_marks(&mut random, count);
                 compare_settle(&mut random, &mut settlements, &terms, &marks, raw::SETTLE_BYTES);
+                let whole_years = if pension_age_months == 0 { term as usize } else { 0 };
+                for year in 1..=whole_years {
+                    compare_settle(&mut random, &mut settlements, &terms, &[1; 240][..12 * year], raw::SETTLE_BYTES);
+                }
             }
         }
     }

@@ -8,8 +8,8 @@ use Rattle.records.proofs.Posting.{taken, answered, success-record, ref
 use Rattle.records.proofs.decide.Statement.{statement}
 use Rattle.records.proofs.decide.Tie as tie
 
-refuse-post-requires : tie.Need-refuse-post-requires
-refuse-post-requires c κs = search needs
+post-refusal-requires : tie.Need-post-refusal-requires
+post-refusal-requires c κs = search needs
 
 place-requires : tie.Need-place-requires
 place-requires c κs = search needs
@@ -17,13 +17,13 @@ place-requires c κs = search needs
 add-next : tie.Need-add-next
 add-next c =
     let start = c .before .before .before in
-    let none = sym (c .before .before .refuse-post .ensures) ∙ c .if1 .taken in
+    let none = sym (c .before .before .post-refusal .ensures) ∙ c .if1 .taken in
     omega (arith, taken (start .args .c) (start .args .mark) (marks-length (start .args .c) (start .good .0)) none .room)
 
 returns : tie.Need-returns
 returns c =
     let start = c .before .before .before in
-    let e = c .before .before .refuse-post .ensures in
+    let e = c .before .before .post-refusal .ensures in
     let none = sym e ∙ c .if1 .taken in
     record {
       inside = taken (start .args .c) (start .args .mark) (marks-length (start .args .c) (start .good .0)) none .room;
@@ -37,16 +37,16 @@ array-read-t12 c = search needs
 returns-2 : tie.Need-returns-2
 returns-2 c =
     let start = c .before .before .before .before in
-    let e = c .before .before .before .refuse-post .ensures in
+    let e = c .before .before .before .post-refusal .ensures in
     record {
       inside = omega arith;
       answer = answered (start .args .c) (start .args .mark) _ _ e (c .before .before .place .ensures);
       makes =
-          unchanged (start .args .c) (start .args .mark) 0
+          unchanged (start .args .c) 0
           ∙ sym (refusal-record (start .args .c) (start .args .mark) (λ z. c .before .if1 .left (e ∙ z)));
     }
 
 pub decide-spec : {M : Type 1} → statement M
 decide-spec =
     tie.close
-    (tie.spec refuse-post-requires place-requires add-next returns array-read-t12 returns-2)
+    (tie.spec post-refusal-requires place-requires add-next returns array-read-t12 returns-2)

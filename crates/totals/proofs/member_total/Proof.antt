@@ -57,6 +57,7 @@ use Rattle.totals.specs.declared.Tally.{Tally}
 use Rattle.totals.specs.declared.Total.{Total}
 use Rattle.totals.specs.Total.{memberTotalOf, openingOf, addOf}
 use Rattle.totals.proofs.Adding.{blank, Stands, stands-first, stands-inside, stands-bound, stands-last, stands-next}
+use Rattle.totals.proofs.Values.{tallyVal, TallyHeld, totalVal, total-held}
 use Rattle.records.proofs.Cells.{recordVal, Held}
 use Rattle.records.proofs.Contract as K
 use Rattle.records.proofs.Contract.Laws as K′
@@ -80,18 +81,6 @@ use Rattle.totals.proofs.member_total.Code.Mir as mir
 
 abbrev stayed : Stays (f.ended .signature .params) (f.ended .kept)
 stayed = (stay-none-slice (0 ∷ []) tt (plain (λ _. K.the-row)) yes, tt)
-
-abbrev tallyVal : Tally → Val
-tallyVal = LL.val T.the-type T′.the-laws
-
-abbrev TallyHeld : Tally → Type 0
-TallyHeld t = Is T.the-row t (tallyVal t ∷ [])
-
-abbrev totalVal : Total → Val
-totalVal = LL.val S.the-type S′.the-laws
-
-total-held : (t : Tally) → TallyHeld t → Is S.the-row (t .total) (totalVal (t .total) ∷ [])
-total-held t is = LL.owed T.the-type T′.the-laws t (tallyVal t ∷ []) is .1 .0
 
 -- where the loop stands: the index, the tally, and what is known of them
 record Turn (cs : List Contract) : Type 0 where

@@ -97,28 +97,28 @@ fn contracts(kind: &Kind) -> Vec<Contract> {
     (0..CONTRACTS).map(make).collect()
 }
 
-fn part_call(call: Call, contract: &Contract, out: &mut [u8; 48]) {
+fn part_call(call: Call, contract: &Contract, out: &mut [u8; raw::SETTLE_BYTES]) {
     let terms = Numbers::from(contract.terms.numbers());
     match call {
-        Call::Quote => raw::quote(&terms, contract.existing, contract.last_number, &mut out[..24]),
+        Call::Quote => raw::quote(&terms, contract.existing, contract.last_number, &mut out[..raw::QUOTE_BYTES]),
         Call::Settle => raw::settle(&terms, &contract.marks, out),
     };
 }
 
 /// The same work: an answer as bytes in a buffer.
-fn reference_call(call: Call, contract: &Contract, out: &mut [u8; 48]) {
+fn reference_call(call: Call, contract: &Contract, out: &mut [u8; raw::SETTLE_BYTES]) {
     match call {
         Call::Quote => {
             let answer = reference::quote(&contract.terms, contract.existing, contract.last_number);
-            out[..24].copy_from_slice(&answer.bytes());
+            out[..raw::QUOTE_BYTES].copy_from_slice(&answer.bytes());
         }
         Call::Settle => *out = reference::settle(&contract.terms, &contract.marks).bytes(),
     }
 }
 
 /// Nanoseconds per call over one round of at least [`ROUND`].
-fn round(call: Call, contracts: &[Contract], run: fn(Call, &Contract, &mut [u8; 48])) -> f64 {
-    let mut out = [0; 48];
+fn round(call: Call, contracts: &[Contract], run: fn(Call, &Contract, &mut [u8; raw::SETTLE_BYTES])) -> f64 {
+    let mut out = [0; raw::SETTLE_BYTES];
     let mut calls = 0;
     let start = Instant::now();
     while start.elapsed() < ROUND {
@@ -136,7 +136,7 @@ fn round(call: Call, contracts: &[Contract], run: fn(Call, &Contract, &mut [u8; 
 /// Both give the same answer, and it is what the kind says.
 fn check(kind: &Kind, contracts: &[Contract]) {
     for contract in contracts {
-        let (mut part, mut reference) = ([0; 48], [0; 48]);
+        let (mut part, mut reference) = ([0; raw::SETTLE_BYTES], [0; raw::SETTLE_BYTES]);
         part_call(kind.call, contract, &mut part);
         reference_call(kind.call, contract, &mut reference);
         assert_eq!(part, reference, "{}: {:?}", kind.name, contract.terms);

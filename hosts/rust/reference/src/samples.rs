@@ -40,6 +40,12 @@ impl Random {
     }
 }
 
+/// How many inputs a test makes up: the number that the environment has under this name, else the usual one.
+pub fn how_many(name: &str, usual: u32) -> u32 {
+    let given = std::env::var(name).ok();
+    given.map_or(usual, |number| number.parse().unwrap_or_else(|_| panic!("{name} is not a number")))
+}
+
 /// Terms of a monthly contract that nothing refuses.
 pub fn monthly_terms(random: &mut Random) -> Terms {
     let pension_age_years = random.from_to(65, 68);
@@ -124,6 +130,11 @@ pub fn last_number(random: &mut Random) -> u32 {
         1 => random.number() as u32,
         _ => random.from_to(0, 999_998),
     }
+}
+
+/// Marks from runs: `runs(&[(18, 1), (4, 0)])` is 18 paid and 4 missed.
+pub fn runs(runs: &[(usize, u8)]) -> Vec<u8> {
+    runs.iter().flat_map(|&(count, mark)| std::iter::repeat_n(mark, count)).collect()
 }
 
 /// Lawful marks, just so many: paid runs, gaps, a lapse or a notice.

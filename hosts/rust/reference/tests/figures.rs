@@ -3,6 +3,7 @@
 use reference::credit::{month_value, row};
 use reference::rates::{monthly_rate, D65};
 use reference::rounding::{blend, nearest};
+use reference::samples::runs;
 use reference::*;
 
 /// £1,250 over 9 years by table D67, age 50.
@@ -11,11 +12,6 @@ const NINE_YEARS: Terms =
 
 /// £1,000 over 5 years by table D65, age 50.
 const FIVE_YEARS: Terms = Terms { pension_age_years: 65, term: 5, amount: 1_000, ..NINE_YEARS };
-
-/// Marks from runs: `runs(&[(18, 1), (4, 0)])` is 18 paid and 4 missed.
-fn runs(runs: &[(usize, u8)]) -> Vec<u8> {
-    runs.iter().flat_map(|&(count, mark)| std::iter::repeat_n(mark, count)).collect()
-}
 
 fn five_years(marks: &[(usize, u8)]) -> Settlement {
     settle(&FIVE_YEARS, &runs(marks))

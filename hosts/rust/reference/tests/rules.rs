@@ -130,10 +130,6 @@ fn the_first_bad_mark_decides() {
 
 type Runs = &'static [(usize, u8)];
 
-fn marks(runs: Runs) -> Vec<u8> {
-    runs.iter().flat_map(|&(count, mark)| std::iter::repeat_n(mark, count)).collect()
-}
-
 #[test]
 fn statuses() {
     let cases: [(u32, Runs, u32); 16] = [
@@ -155,10 +151,10 @@ fn statuses() {
         (1, &[(12, 1)], 3),
     ];
     for (term, runs, expected) in cases {
-        assert_eq!(status(term, &marks(runs)), expected, "{term} {runs:?}");
+        assert_eq!(status(term, &samples::runs(runs)), expected, "{term} {runs:?}");
     }
     // The refund goes by paid months, the status by months up to the last paid one.
-    let refunded = settle(&TERMS, &marks(&[(1, 1), (9, 0), (1, 1), (1, 2)]));
+    let refunded = settle(&TERMS, &samples::runs(&[(1, 1), (9, 0), (1, 1), (1, 2)]));
     assert_eq!((refunded.credit, refunded.refund), (0, 2 * 242_00));
 }
 

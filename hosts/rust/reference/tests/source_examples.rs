@@ -1,4 +1,4 @@
-//! The worked examples of the published note.
+//! The worked examples of document 000.
 
 use reference::credit::{month_value, row};
 use reference::*;
@@ -27,7 +27,7 @@ fn examples_2_and_3_monthly() {
     assert_eq!(contribution(Terms { age: 32, ..terms }), 132_30);
 }
 
-/// The note rounds the rate before it multiplies and prints £255.71; the rules round once.
+/// Document 000 rounds the rate before it multiplies and prints £255.71; the rules round once.
 #[test]
 fn example_4_odd_months() {
     let terms = Terms { age: 54, pension_age_years: 66, pension_age_months: 5, term: 10, amount: 1_750, ..MEMBER };
@@ -35,7 +35,7 @@ fn example_4_odd_months() {
     assert_eq!(contribution(Terms { amount: 250, ..terms }), 36_53);
 }
 
-/// The note works with the next year's cap, £6,578, and gets £5,457 of room; £6,500 leaves £5,379, the same multiple.
+/// Document 000 works with the next year's cap, £6,578, and gets £5,457 of room; £6,500 leaves £5,379, the same multiple.
 #[test]
 fn example_5_room_under_the_cap() {
     assert_eq!(cap_decision(37_00 + 1_084_00), 5_250);
@@ -70,7 +70,7 @@ fn example_a3_five_months() {
     assert_eq!(settle(&terms, &[1; 5]).credit, 71_66);
 }
 
-/// The note counts the rest of the term as paid as soon as payments resume; the rules credit what has been paid.
+/// Document 000 counts the rest of the term as paid as soon as payments resume; the rules credit what has been paid.
 #[test]
 fn example_a4_gap() {
     let terms = Terms { age: 54, option: 1, term: 4, amount: 1_000, ..MEMBER };

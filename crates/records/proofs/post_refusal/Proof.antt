@@ -1,21 +1,21 @@
--- `records::refuse_post` meets its contract: a bad record, then no month left, then the mark after those in use.
+-- `records::post_refusal` meets its contract: a bad record, then no month left, then the mark after those in use.
 -- Assumes nothing.
 use mathlib.Core.Path.{sym, ap, _∙_}
 use native.Mathlib.Omega.{arith}
 use borrow.Author.Needs.{needs}
 use Rattle.marks.specs.Reading.{oneMore, stepBy}
 use Rattle.marks.specs.declared.Reading.{Reading}
-use Rattle.records.proofs.Bad.{not-bad, check-bad}
+use Rattle.records.proofs.Bad.{not-bad, check-says}
 use Rattle.records.proofs.Cells.{marks-length}
 use Rattle.records.proofs.Posting.{bad-refused, used-length, over-refused, mark-refused}
-use Rattle.records.proofs.refuse_post.Statement.{statement}
-use Rattle.records.proofs.refuse_post.Tie as tie
+use Rattle.records.proofs.post_refusal.Statement.{statement}
+use Rattle.records.proofs.post_refusal.Tie as tie
 
 check-record-requires : tie.Need-check-record-requires
 check-record-requires c κs = search needs
 
 returns : tie.Need-returns
-returns c = sym (bad-refused _ _ (sym (check-bad _ (c .before .check-record .ensures)) ∙ c .if1 .taken))
+returns c = sym (bad-refused _ _ (check-says _ (c .before .check-record .ensures) (c .if1 .taken)))
 
 cast-if2 : tie.Need-cast-if2
 cast-if2 c = search needs
@@ -28,21 +28,21 @@ returns-2 c =
     let d = c .before .before in
     let start = d .before .before in
     sym (over-refused _ _ (marks-length (start .args .c) (start .good .0))
-    (sym (check-bad _ (d .before .check-record .ensures)) ∙ d .if1 .left) (c .if2 .taken))
+    (check-says _ (d .before .check-record .ensures) (d .if1 .left)) (c .if2 .taken))
 
 array-share-prefix-marks : tie.Need-array-share-prefix-marks
 array-share-prefix-marks c =
     let d = c .before .before in
     let start = d .before .before in
-    let good = not-bad (start .args .c) (sym (check-bad _ (d .before .check-record .ensures)) ∙ d .if1 .left) in
+    let good = not-bad (start .args .c) (check-says _ (d .before .check-record .ensures) (d .if1 .left)) in
     omega (arith, good .few, marks-length (start .args .c) (start .good .0))
 
 slice-aggregate-read-marks : tie.Need-slice-aggregate-read-marks
 slice-aggregate-read-marks c =
     let d = c .before .before .before in
     let start = d .before .before in
-    sym (used-length (start .args .c) (start .args .mark) (marks-length (start .args .c) (start .good .0))
-    (sym (check-bad _ (d .before .check-record .ensures)) ∙ d .if1 .left))
+    sym (used-length (start .args .c) (marks-length (start .args .c) (start .good .0))
+    (check-says _ (d .before .check-record .ensures) (d .if1 .left)))
 
 read-marks-requires : tie.Need-read-marks-requires
 read-marks-requires c κs = search needs
@@ -57,10 +57,10 @@ returns-3 c =
     ap (λ (r : Reading). r .refusal) (c .step .ensures)
     ∙ ap (λ (r : Reading). stepBy oneMore r (start .args .mark) .refusal) (c .before .read-marks .ensures)
     ∙ sym (mark-refused (start .args .c) (start .args .mark) (marks-length (start .args .c) (start .good .0))
-    (sym (check-bad _ (d .before .check-record .ensures)) ∙ d .if1 .left) (c .before .before .before .if2 .left))
+    (check-says _ (d .before .check-record .ensures) (d .if1 .left)) (c .before .before .before .if2 .left))
 
-pub refuse-post-spec : {M : Type 1} → statement M
-refuse-post-spec =
+pub post-refusal-spec : {M : Type 1} → statement M
+post-refusal-spec =
     tie.close
     (tie.spec
     check-record-requires
