@@ -23,8 +23,7 @@ of-units-requires-2 c κs = search needs
 combine-requires : tie.Need-combine-requires
 combine-requires c κs =
     let a = c .before .before .before .args in
-    let p = c .before .before .before .pre in
-    (
+    let p = c .before .before .before .pre in (
       rw (c .before .of-units .ensures) (fits (a .t .amount) (a .lower) (p .0) (p .1)),
       rw (c .of-units2 .ensures) (fits (a .t .amount) (a .upper) (p .0) (p .2)),
     )

@@ -99,8 +99,7 @@ cost-requires : tie.Need-cost-requires
 cost-requires c κs =
     let b = c .before .before in
     let t = terms-of b in
-    let low = accepted-facts t _ (sym (c .before .price-refusal .ensures) ∙ c .if2 .left) in
-    (
+    let low = accepted-facts t _ (sym (c .before .price-refusal .ensures) ∙ c .if2 .left) in (
       omega (arith, low .under-cap),
       omega (arith, lower-is b, table-rate-most t (t .years)),
       omega (arith, b .found-in2 .ensures ∙ ap (foundIn t) (b .before .before .upper-rates-at .ensures), found-upper-most t (t .years + 1)),
