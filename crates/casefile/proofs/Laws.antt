@@ -12,7 +12,8 @@ use Rattle.casefile.specs.declared.OpenLine.{OpenLine}
 use Rattle.casefile.specs.declared.ChunkSettled.{ChunkSettled}
 use Rattle.casefile.specs.declared.EndSettled.{EndSettled}
 use Rattle.casefile.specs.File.{listingOf}
-use Rattle.casefile.specs.Stream.{openAfter, writtenBy, writtenAtEnd, takenWith, bytesOf, ChunkTold, endOf, Calls, at-end, on-chunk}
+use Rattle.casefile.specs.Stream.{openAfter, writtenBy, writtenAtEnd, takenWith, bytesOf}
+use Rattle.casefile.specs.Stream.{ChunkNumbers, numbersOf, takenOf, chunkOf, endOf, Calls, at-end, on-chunk}
 use Rattle.casefile.proofs.Last.{end-within, end-writes}
 use Rattle.casefile.proofs.Chunks.{open-append, written-append, listing-from, written-kept, end-kept}
 
@@ -29,19 +30,37 @@ taken-some zero l p q = absurd (omega arith)
 taken-some (suc n) [] p q = absurd (omega arith)
 taken-some (suc n) (b ∷ l) p q = omega arith
 
-module _ {o : OpenLine} {chunk out out′ : List ℕ} {r : ChunkSettled} (told : ChunkTold o chunk out out′ r) where
+module _ (o : OpenLine) (chunk out out′ : List ℕ) (r : ChunkSettled) (is : numbersOf r out′ ≡ chunkOf (bytesOf o) chunk out) where
+  taken-is : r .taken ≡ takenWith (length out / 46) chunk
+  unfolding chunkOf
+  taken-is = ap (λ (n : ChunkNumbers). n .taken) is
+
+  by-taken : numbersOf r out′ ≡ takenOf (bytesOf o) chunk out (r .taken)
+  unfolding chunkOf
+  by-taken = is ∙ ap (takenOf (bytesOf o) chunk out) (sym taken-is)
+
+  wrote-is : r .wrote ≡ length (writtenBy (bytesOf o) (take (r .taken) chunk))
+  wrote-is = ap (λ (n : ChunkNumbers). n .wrote) by-taken
+
+  kept-is : bytesOf (r .after) ≡ take 286 (openAfter (bytesOf o) (take (r .taken) chunk))
+  kept-is = ap (λ (n : ChunkNumbers). n .kept) by-taken
+
   -- no more is taken than there is, and something where a line fits
   pub chunk-taken : r .taken ≤ length chunk
-  chunk-taken = omega (arith, told .taken, taken-within (length out / 46) chunk)
+  chunk-taken = omega (arith, taken-is, taken-within (length out / 46) chunk)
 
   pub chunk-moves : 46 ≤ length out → 0 < length chunk → 0 < r .taken
-  chunk-moves h k = omega (arith, told .taken, taken-some (length out / 46) chunk (omega arith) k)
+  chunk-moves h k = omega (arith, taken-is, taken-some (length out / 46) chunk (omega arith) k)
 
   pub chunk-wrote : r .wrote ≤ length out′
-  chunk-wrote = omega (arith, told .wrote, ap length (told .written) ∙ length-append (writtenBy (bytesOf o) (take (r .taken) chunk)) (drop (r .wrote) out))
+  chunk-wrote =
+      let w = writtenBy (bytesOf o) (take (r .taken) chunk) in
+      omega (arith, wrote-is, ap (λ (n : ChunkNumbers). length (n .out)) by-taken ∙ length-append w (drop (length w) out))
 
   written-is : take (r .wrote) out′ ≡ writtenBy (bytesOf o) (take (r .taken) chunk)
-  written-is = ap (take (r .wrote)) (told .written) ∙ take-at (writtenBy (bytesOf o) (take (r .taken) chunk)) (drop (r .wrote) out) (r .wrote) (sym (told .wrote))
+  written-is =
+      let w = writtenBy (bytesOf o) (take (r .taken) chunk) in
+      ap (λ (n : ChunkNumbers). take (r .wrote) (n .out)) by-taken ∙ take-at w (drop (length w) out) (r .wrote) (sym wrote-is)
 
 -- the end writes no more than it has
 pub end-wrote : (o : OpenLine) {r : EndSettled} → r ≡ endOf (bytesOf o) → r .wrote ≤ 46
@@ -51,13 +70,13 @@ calls-write : {o : OpenLine} {file written : List ℕ} → Calls o file written
     → written ≡ writtenBy (bytesOf o) file ++ writtenAtEnd (openAfter (bytesOf o) file)
 unfolding openAfter writtenBy
 calls-write {o} (at-end told) = ap (λ (r : EndSettled). take (r .wrote) (r .bytes)) told ∙ end-writes (bytesOf o)
-calls-write {o} (on-chunk {chunk = chunk} {out = out} {out′ = out′} {rest = rest} {written = written} {r = r} told calls) =
+calls-write (on-chunk o chunk out out′ rest written r is calls) =
     let p = bytesOf o in
     let part = take (r .taken) chunk in
     let q = openAfter p part in
     let later : written ≡ writtenBy q rest ++ writtenAtEnd (openAfter q rest) =
-    calls-write calls ∙ rw (told .after, written-kept q rest, end-kept q rest) in
-    rw (written-is told, later)
+    calls-write calls ∙ rw (kept-is o chunk out out′ r is, written-kept q rest, end-kept q rest) in
+    rw (written-is o chunk out out′ r is, later)
     (sym (append-assoc (writtenBy p part) (writtenBy q rest) (writtenAtEnd (openAfter q rest)))
     ∙ sym (rw (written-append p part rest, open-append p part rest)))
 

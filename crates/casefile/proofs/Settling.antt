@@ -16,7 +16,7 @@ use Rattle.casefile.specs.declared.OpenLine.{OpenLine}
 use Rattle.casefile.specs.declared.ChunkSettled.{ChunkSettled}
 use Rattle.casefile.specs.declared.Progress.{Progress}
 use Rattle.case_line.specs.Line.{lineOf}
-use Rattle.casefile.specs.Stream.{openAfter, writtenBy, takenWith, bytesOf, ChunkTold}
+use Rattle.casefile.specs.Stream.{openAfter, writtenBy, takenWith, bytesOf, numbersOf, chunkOf}
 use Rattle.casefile.specs.Told.{EndFound, Kept, PartTold, line-ends, goes-on}
 use Rattle.case_line.proofs.Shapes.{length-line}
 use Rattle.casefile.proofs.Chunks.{open-append, written-append, line-kept, kept-more}
@@ -202,26 +202,26 @@ module _ (o : OpenLine) {p chunk old bytes out : List ℕ} {len taken wrote : �
   abbrev handed : ChunkSettled
   handed = record { after = record { bytes = bytes; len = len }; taken = taken; wrote = wrote }
 
-  at-stop : takenWith ((length old - wrote) / 46) (drop taken chunk) ≡ 0 → ChunkTold o chunk old out handed
+  abbrev Settled : Type 0
+  Settled = numbersOf handed out ≡ chunkOf (bytesOf o) chunk old
+
+  at-stop : takenWith ((length old - wrote) / 46) (drop taken chunk) ≡ 0 → Settled
+  unfolding chunkOf
   at-stop none =
-      record {
-        taken = sym (s .ahead ∙ omega (arith, none));
-        after = s .kept;
-        wrote = s .count;
-        written = s .written;
-      }
+      let all : takenWith (length old / 46) chunk ≡ taken = s .ahead ∙ omega (arith, none) in
+      rw (all, s .written, s .count, s .kept)
 
   -- the chunk is through
-  at-chunk-end : length chunk ≤ taken → ChunkTold o chunk old out handed
+  at-chunk-end : length chunk ≤ taken → Settled
   at-chunk-end h = at-stop (ap (takenWith _) (drop-of-length-le chunk h) ∙ taken-none _)
 
   -- no further line fits
-  at-full : length out - wrote < 46 → ChunkTold o chunk old out handed
+  at-full : length out - wrote < 46 → Settled
   unfolding takenWith
   at-full h =
       let none : (length old - wrote) / 46 ≡ 0 = omega (arith, s .out-long) in
       at-stop (ap (λ (k : ℕ). takenWith k (drop taken chunk)) none)
 
-  pub chunk-settled : ltb taken (length chunk) && leb 46 (length out - wrote) ≡ false → ChunkTold o chunk old out handed
+  pub chunk-settled : ltb taken (length chunk) && leb 46 (length out - wrote) ≡ false → Settled
   chunk-settled e =
       by-test (ltb taken (length chunk)) (λ t. at-full (leb-false _ _ (rw t at e))) (λ t. at-chunk-end (ltb-false _ _ t))

@@ -37,13 +37,31 @@ takenWith (suc n) (b ∷ bs) = suc (pick (eqb b 10) (takenWith n bs) (takenWith 
 abbrev pub bytesOf : OpenLine → List ℕ
 bytesOf o = take (o .len) (o .bytes)
 
--- What settling a chunk gives: as many bytes are taken as `out` has room for in lines of 46 bytes; the open line after them;
--- and at the start of `out` the lines that ended, with all behind them as it was.
-pub record ChunkTold (o : OpenLine) (chunk out out′ : List ℕ) (r : ChunkSettled) : Type 0 where
-  pub taken : r .taken ≡ takenWith (length out / 46) chunk
-  pub after : bytesOf (r .after) ≡ take 286 (openAfter (bytesOf o) (take (r .taken) chunk))
-  pub wrote : r .wrote ≡ length (writtenBy (bytesOf o) (take (r .taken) chunk))
-  pub written : out′ ≡ writtenBy (bytesOf o) (take (r .taken) chunk) ++ drop (r .wrote) out
+-- what settling a chunk gives: how many of its bytes are taken, how many are written, the open line after them, and what `out` holds
+pub record ChunkNumbers : Type 0 where
+  pub taken : ℕ
+  pub wrote : ℕ
+  pub kept : List ℕ
+  pub out : List ℕ
+
+-- these of an answer, beside `out`
+abbrev pub numbersOf : ChunkSettled → List ℕ → ChunkNumbers
+numbersOf r out = record { taken = r .taken; wrote = r .wrote; kept = bytesOf (r .after); out = out }
+
+-- where n bytes of a chunk are taken and p was open before it: the lines that end among them stand at the start of `out`, with all
+-- behind them as it was
+abbrev pub takenOf : List ℕ → List ℕ → List ℕ → ℕ → ChunkNumbers
+takenOf p chunk out n =
+    record {
+      taken = n;
+      wrote = length (writtenBy p (take n chunk));
+      kept = take 286 (openAfter p (take n chunk));
+      out = writtenBy p (take n chunk) ++ drop (length (writtenBy p (take n chunk))) out;
+    }
+
+-- as many bytes are taken as `out` has room for in lines of 46 bytes
+unfoldable pub chunkOf : List ℕ → List ℕ → List ℕ → ChunkNumbers
+chunkOf p chunk out = takenOf p chunk out (takenWith (length out / 46) chunk)
 
 -- what the end of the file gives: the open line's line of the listing; where none is open, nothing, and 46 zeros
 unfoldable pub endOf : List ℕ → EndSettled
@@ -54,6 +72,6 @@ endOf (b ∷ bs) = record { bytes = lineOf (b ∷ bs); wrote = 46 }
 -- and the bytes that they write.
 pub data Calls : OpenLine → List ℕ → List ℕ → Type 0 where
   at-end : {o : OpenLine} {r : EndSettled} → r ≡ endOf (bytesOf o) → Calls o [] (take (r .wrote) (r .bytes))
-  on-chunk : {o : OpenLine} {chunk out out′ rest written : List ℕ} {r : ChunkSettled}
-      → ChunkTold o chunk out out′ r → Calls (r .after) rest written
+  on-chunk : (o : OpenLine) (chunk out out′ rest written : List ℕ) (r : ChunkSettled)
+      → numbersOf r out′ ≡ chunkOf (bytesOf o) chunk out → Calls (r .after) rest written
       → Calls o (take (r .taken) chunk ++ rest) (take (r .wrote) out′ ++ written)

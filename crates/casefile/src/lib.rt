@@ -5,7 +5,7 @@ ghost use Prim.Native.Nat.{_+_, _≤_, min};
 ghost use lib.ListN.{length, take};
 ghost use lib.Seq.{paste};
 ghost use Rattle.case_line.specs.Line.{lineOf};
-ghost use Rattle.casefile.specs.Stream.{bytesOf, ChunkTold, endOf};
+ghost use Rattle.casefile.specs.Stream.{bytesOf, numbersOf, chunkOf, endOf};
 ghost use Rattle.casefile.specs.Told.{Kept, PartTold};
 use bytes::scan::find;
 use case_line::settle_line;
@@ -124,7 +124,7 @@ pub fn no_line() -> OpenLine
 // Works through a chunk to its end, or up to the line end after which out has no room for another line of 46 bytes; without
 // room for one, takes nothing.
 pub fn settle_chunk(before: OpenLine, chunk: &[u8], out: &mut [u8]) -> ChunkSettled
-    ensures { λ r. ⌜ ChunkTold before (now (chunk .entry)) (now (out .entry)) (now (out .exit)) r ⌝ }
+    ensures { λ r. ⌜ numbersOf r (now (out .exit)) ≡ chunkOf (bytesOf before) (now (chunk .entry)) (now (out .entry)) ⌝ }
 {
     let mut bytes = before.bytes;
     let mut at = Progress {

@@ -29,12 +29,13 @@ counts c =
     let x = c .before .before .before .before .before .before .before in
     let chunk = now (x .args .chunk) in
     let told = c .settle-chunk .ensures in
-    let long : length (take (length chunk - w .at) (drop (w .at) chunk)) ≡ length chunk - w .at = length-take-le _ _ (omega (arith, length-drop (w .at) chunk)) in
+    let part = take (length chunk - w .at) (drop (w .at) chunk) in
+    let long : length part ≡ length chunk - w .at = length-take-le _ _ (omega (arith, length-drop (w .at) chunk)) in
     let left : w .at < length chunk = c .before .before .before .loop-test .taken in
     record {
-      some = chunk-moves told (omega (arith, w .inv, x .pre)) (omega arith);
-      taken = omega (arith, chunk-taken told, w .inv);
-      wrote = chunk-wrote told;
+      some = chunk-moves (w .after) part (w .out) _ (c .settle-chunk .result) told (omega (arith, w .inv, x .pre)) (omega arith);
+      taken = omega (arith, chunk-taken (w .after) part (w .out) _ (c .settle-chunk .result) told, w .inv);
+      wrote = chunk-wrote (w .after) part (w .out) _ (c .settle-chunk .result) told;
     }
 
 loop-holds : tie.Need-loop-holds Inv-loop μ-loop
