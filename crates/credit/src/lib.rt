@@ -64,7 +64,7 @@ pub fn after_mark(e: Earned, years: [u32; 21], mark: u8) -> Earned
 }
 
 // The credit over the unbroken paid runs of the marks.
-pub fn credit_in(years: [u32; 21], marks: &[u8]) -> PensionPence
+pub fn credit_over(years: [u32; 21], marks: &[u8]) -> PensionPence
     requires { ⌜ length (now marks) < 2 ^ 31 ⌝ }
     ensures { λ r. ⌜ r ≡ pension (creditOver nearest years (now (marks .entry))) ⌝ }
 {

@@ -35,11 +35,11 @@ fn earned(t: Terms, lower: [u32; 20], upper: [u32; 20], marks: &[u8]) -> Pension
     ensures { λ r. ⌜ r ≡ pension (creditOf t (now (marks .entry))) ⌝ }
 {
     let units = t.amount / money::STEP;
-    let only = credit::credit_in(years::year_credits(lower, units, t.term), marks);
+    let only = credit::credit_over(years::year_credits(lower, units, t.term), marks);
     if t.months == 0 {
         return only;
     }
-    let other = credit::credit_in(years::year_credits(upper, units, t.term), marks);
+    let other = credit::credit_over(years::year_credits(upper, units, t.term), marks);
     only.combine(other, t.months)
 }
 

@@ -46,44 +46,44 @@ year-credits-requires c κs =
     let m = c .before .before .pre .0 in
     lower-sound _ (m .accepted) (m .some-years) (m .lower-is)
 
-credit-in-requires : tie.Need-credit-in-requires
-credit-in-requires c κs = search needs
+credit-over-requires : tie.Need-credit-over-requires
+credit-over-requires c κs = search needs
 
 returns : tie.Need-returns
 returns c =
     let t = c .before .before .before .before .before .before .args .t in
-    only-table t _ (c .if1 .taken) (worked t _ _ _ (c .before .before .before .before .before .before .pre .0 .lower-is) (c .before .before .before .year-credits .ensures .0) (c .before .before .credit-in .ensures))
+    only-table t _ (c .if1 .taken) (worked t _ _ _ (c .before .before .before .before .before .before .pre .0 .lower-is) (c .before .before .before .year-credits .ensures .0) (c .before .before .credit-over .ensures))
 
 year-credits-requires-2 : tie.Need-year-credits-requires-2
 year-credits-requires-2 c κs =
     let m = c .before .before .before .before .before .before .pre .0 in
     upper-sound _ (m .accepted) (m .some-years) (c .if1 .left) (m .upper-is (c .if1 .left))
 
-credit-in-requires-2 : tie.Need-credit-in-requires-2
-credit-in-requires-2 c κs = search needs
+credit-over-requires-2 : tie.Need-credit-over-requires-2
+credit-over-requires-2 c κs = search needs
 
 combine-requires : tie.Need-combine-requires
 combine-requires c κs =
     let t = c .before .before .before .before .before .before .before .before .args .t in
     let few = c .before .before .before .before .before .before .before .before .pre .1 in
-    (small t _ _ few (c .before .before .before .before .before .before .before .before .pre .0 .accepted) (c .before .before .before .before .before .year-credits .ensures .1) (c .before .before .before .before .credit-in .ensures), small t _ _ few (c .before .before .before .before .before .before .before .before .pre .0 .accepted) (c .before .year-credits2 .ensures .1) (c .credit-in2 .ensures))
+    (small t _ _ few (c .before .before .before .before .before .before .before .before .pre .0 .accepted) (c .before .before .before .before .before .year-credits .ensures .1) (c .before .before .before .before .credit-over .ensures), small t _ _ few (c .before .before .before .before .before .before .before .before .pre .0 .accepted) (c .before .year-credits2 .ensures .1) (c .credit-over2 .ensures))
 
 returns-2 : tie.Need-returns-2
 returns-2 c =
     let t = c .before .before .before .before .before .before .before .before .before .args .t in
     let m = c .before .before .before .before .before .before .before .before .before .pre .0 in
     c .combine .ensures
-    ∙ both t _ (worked t _ _ _ (m .lower-is) (c .before .before .before .before .before .before .year-credits .ensures .0) (c .before .before .before .before .before .credit-in .ensures))
-    (worked t _ _ _ (m .upper-is (c .before .before .before .if1 .left)) (c .before .before .year-credits2 .ensures .0) (c .before .credit-in2 .ensures))
+    ∙ both t _ (worked t _ _ _ (m .lower-is) (c .before .before .before .before .before .before .year-credits .ensures .0) (c .before .before .before .before .before .credit-over .ensures))
+    (worked t _ _ _ (m .upper-is (c .before .before .before .if1 .left)) (c .before .before .year-credits2 .ensures .0) (c .before .credit-over2 .ensures))
 
 pub earned-spec : {M : Type 1} → statement M
 earned-spec =
     tie.close
     (tie.spec
     year-credits-requires
-    credit-in-requires
+    credit-over-requires
     returns
     year-credits-requires-2
-    credit-in-requires-2
+    credit-over-requires-2
     combine-requires
     returns-2)

@@ -1,4 +1,4 @@
--- `credit::credit_in` meets its contract. The loop's invariant: the state is that after the first i marks, of which each earned
+-- `credit::credit_over` meets its contract. The loop's invariant: the state is that after the first i marks, of which each earned
 -- less than 2 ^ 32 pence. Assumes nothing.
 use mathlib.Core.Path.{_≡_, ap, _∙_}
 use Prim.Native.Nat.{_*_, _-_, _≤_, _^_}
@@ -12,8 +12,8 @@ use Rattle.money.specs.Money.{pension}
 use Rattle.credit.specs.declared.Earned.{Earned}
 use Rattle.credit.specs.Earned.{nothingYet, afterMarks}
 use Rattle.credit.proofs.Runs.{one-mark-more, by-runs}
-use Rattle.credit.proofs.credit_in.Statement.{statement}
-use Rattle.credit.proofs.credit_in.Tie as tie
+use Rattle.credit.proofs.credit_over.Statement.{statement}
+use Rattle.credit.proofs.credit_over.Tie as tie
 
 abbrev Inv-loop : tie.InvT-loop
 Inv-loop years marks e₀ i₀ e i =
@@ -66,8 +66,8 @@ returns c =
     c .credit-at .ensures .0
     ∙ ap pension (rw (w .inv .3, take-all (w .i) (now (a .marks)) (c .before .loop-test .left)) (by-runs nearest (a .years) (now (a .marks))))
 
-pub credit-in-spec : {M : Type 1} → statement M
-credit-in-spec =
+pub credit-over-spec : {M : Type 1} → statement M
+credit-over-spec =
     tie.close
     (tie.spec
     Inv-loop
