@@ -1,5 +1,5 @@
 -- A posted history is a settled list: a fresh record holds the marks that are posted into it one after the other, none
--- being refused. The record that a posting leaves is never bad. And every list that Settle accepts can be posted.
+-- being refused. A posting that is not refused leaves no bad record. And every list that Settle accepts can be posted.
 -- Assumes nothing.
 use mathlib.Core.Bool.{false}
 use mathlib.Core.List.{List, [], _∷_, _++_, append-nil}
@@ -44,7 +44,7 @@ module _ (c : Contract) (m : ℕ) (full : length (c .marks) ≡ 240) (z : postRe
         zeros = rw (add-one, drop-set-lt (suc (c .count)) (c .marks) (c .count) m (omega arith)) (zeros-further (c .marks) (c .count) (was .zeros));
       }
 
-  -- the record that a posting leaves is not bad
+  -- the record that a posting that is not refused leaves is not bad
   pub posted-good : badRecord (postedRecord c m) ≡ false
   posted-good = rw is-next (good-record next next-good)
 

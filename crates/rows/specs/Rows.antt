@@ -40,7 +40,7 @@ fiveYears = at50 65 5 1000
 abbrev pub oddMonths : Terms
 oddMonths = record { age = 54; years = 66; months = 5; option = 2; payer = 1; term = 10; amount = 1750 }
 
--- the costs of both; two contributions at 5 odd months; £250 and £500 beside an existing £6,250
+-- the costs of both; two credits at 5 odd months; £250 and £500 beside an existing £6,250
 unfoldable pub priceRows : List Row
 priceRows =
     (only (contributionOf nineYears) is only 17150)
@@ -71,6 +71,10 @@ firstYears n t = take n (yearCredits nearest (purchaseIn t (t .years)))
 abbrev pub valueAt : Terms → ℕ → ℕ
 valueAt t month = monthValue nearest (yearCredits nearest (purchaseIn t (t .years))) month
 
+-- twelve times that value before it is rounded
+abbrev pub twelfthsAt : Terms → ℕ → ℕ
+twelfthsAt t month = monthValue (λ n d. n) (yearCredits nearest (purchaseIn t (t .years))) month
+
 -- year 1 and five paid months of the first contract; years 1 to 5, 18 paid months and the gap of the second
 unfoldable pub creditRows : List Row
 creditRows =
@@ -78,6 +82,7 @@ creditRows =
     ∷ (settled nineYears (paidFor 5) is (0 ∷ 0 ∷ 17150 ∷ 1 ∷ 7166 ∷ 0 ∷ []))
     ∷ (firstYears 6 fiveYears is (0 ∷ 22259 ∷ 43338 ∷ 63285 ∷ 82201 ∷ 100000 ∷ []))
     ∷ (settled fiveYears (paidFor 18) is (0 ∷ 0 ∷ 24200 ∷ 1 ∷ 32799 ∷ 0 ∷ []))
+    ∷ (only (twelfthsAt fiveYears 18) is only 393582)
     ∷ ((valueAt fiveYears 18 ∷ valueAt fiveYears 28 ∷ valueAt fiveYears 22 ∷ []) is (32799 ∷ 49987 ∷ 39825 ∷ []))
     ∷ (settled fiveYears (paidFor 18 ++ (missedFor 4 ++ paidFor 6)) is (0 ∷ 0 ∷ 24200 ∷ 1 ∷ 42961 ∷ 0 ∷ []))
     ∷ []

@@ -1,4 +1,5 @@
 pub mod Laws
+pub mod Marks
 pub mod Purchases
 pub mod Demand
 pub mod Bounds

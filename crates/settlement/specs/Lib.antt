@@ -1,4 +1,5 @@
 pub mod Credit
 pub mod Settle
+pub mod Marks
 pub mod Demand
 pub mod Bounds

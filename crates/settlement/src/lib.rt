@@ -8,6 +8,7 @@ ghost use Rattle.money.specs.Money.{pension, contribution};
 ghost use Rattle.settlement.specs.Credit.{creditOf};
 ghost use Rattle.settlement.specs.Settle.{creditAtStatus, settleOf, numbersOf};
 ghost use Rattle.settlement.specs.Demand.{Demand3};
+ghost use Rattle.settlement.specs.Marks.{MarksTold};
 ghost use Rattle.examination.specs.Examine.{Monthly};
 use money::ContributionPence;
 use money::PensionPence;
@@ -79,6 +80,7 @@ fn refund_at_status(own: ContributionPence, status: u32, paid: usize) -> Contrib
 pub fn settle(t: Terms, marks: &[u8]) -> Settlement
     ensures is { λ r. ⌜ numbersOf r ≡ settleOf t (now (marks .entry)) ⌝ }
     ensures distance { λ r. ⌜ (Demand3 t (now (marks .entry)) (numbersOf r)) ⌝ }
+    ensures marks { λ r. ⌜ MarksTold t (now (marks .entry)) (numbersOf r) ⌝ }
 {
     let e = examination::examine(t, marks);
     if e.refusal != 0 {

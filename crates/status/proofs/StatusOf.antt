@@ -1,5 +1,5 @@
 -- The status from the reading of lawful marks is the status of the marks; and what a status tells: its range, b of a refunded contract,
--- that only a lump sum has 6.
+-- that a contract without status 6 is monthly.
 -- Assumes nothing.
 use mathlib.Core.Bool.{Bool, _&&_}
 use mathlib.Core.List.{List}
@@ -80,7 +80,7 @@ module _ (term : ℕ) (ms : List ℕ) where
       let after4 = not-first (λ (n : ℕ). n ≡ 5) test4 4 5 (λ z. omega arith) (after3 .1) in
       leb-false 12 (paidThrough ms) (after4 .0)
 
--- only a lump sum has status 6
+-- a contract without status 6 is monthly
 pub not-lump : (term : ℕ) (ms : List ℕ) → (statusOf term ms ≡ 6 → ⊥) → 0 < term
 unfolding statusOf
 not-lump zero ms h = absurd (h refl)

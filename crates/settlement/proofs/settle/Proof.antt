@@ -15,10 +15,12 @@ use Rattle.money.specs.Money.{pension, contribution}
 use Rattle.money.specs.declared.ContributionPence.{ContributionPence}
 use Rattle.money.specs.declared.PensionPence.{PensionPence}
 use Rattle.settlement.proofs.Demand.{demand-3}
+use Rattle.settlement.proofs.Marks.{marks-told}
 use Rattle.settlement.proofs.Laws.{settle-refused, settle-settled}
 use Rattle.examination.proofs.Laws.{accepted, few, examined-refused, examined-accepted}
 use Rattle.examination.proofs.Examination.{examined-told, examined-none, examined-status, examined-monthly}
 use Rattle.settlement.specs.Demand.{Demand3}
+use Rattle.settlement.specs.Marks.{MarksTold}
 use Rattle.examination.specs.Examine.{settleRefusal, examinedOf}
 use Rattle.settlement.specs.Settle.{SettleNumbers, creditAtStatus, refundAtStatus, refusedNumbers, settleOf}
 use Rattle.examination.specs.declared.Examined.{Examined}
@@ -26,8 +28,8 @@ use Rattle.settlement.proofs.settle.Statement.{statement}
 use Rattle.settlement.proofs.settle.Tie as tie
 
 -- what holds of the defined numbers holds of equal ones
-near : (t : Terms) (ms : List ℕ) {n : SettleNumbers} → n ≡ settleOf t ms → (n ≡ settleOf t ms) × Demand3 t ms n
-near t ms is = (is, subst (Demand3 t ms) (sym is) (demand-3 t ms))
+near : (t : Terms) (ms : List ℕ) {n : SettleNumbers} → n ≡ settleOf t ms → (n ≡ settleOf t ms) × (Demand3 t ms n × MarksTold t ms n)
+near t ms is = (is, (subst (Demand3 t ms) (sym is) (demand-3 t ms), subst (MarksTold t ms) (sym is) (marks-told t ms)))
 
 module _ (t : Terms) (ms : List ℕ) {e : Examined} (is : e ≡ examinedOf t ms) where
   refuses : (e .refusal ≡ 0 → ⊥) → refusedNumbers (e .refusal) (e .place) ≡ settleOf t ms

@@ -1,0 +1,20 @@
+-- Settle's refusals of marks, in document 01's own words.
+-- Assumes nothing.
+use mathlib.Core.List.{List}
+use mathlib.Core.Path.{_≡_}
+use Prim.Native.Nat.{ℕ, _*_, _≤_, _<_}
+use lib.ListN.{length}
+use Rattle.terms.specs.declared.Terms.{Terms}
+use Rattle.terms.specs.Rules.{refusalOf}
+use Rattle.marks.specs.Lawful.{LawfulFor, FirstBad}
+use Rattle.settlement.specs.Settle.{SettleNumbers}
+
+pub record MarksTold (t : Terms) (marks : List ℕ) (n : SettleNumbers) : Type 0 where
+  -- what is not refused has lawful marks, no more than the term has months
+  pub lawful : n .refusal ≡ 0 → LawfulFor (t .term) marks
+  -- where no rule refuses the terms, such marks are not refused,
+  pub accepted : refusalOf t 0 ≡ 0 → LawfulFor (t .term) marks → n .refusal ≡ 0
+  -- more marks than months are refused with 10,
+  pub too-many : refusalOf t 0 ≡ 0 → 12 * t .term < length marks → (n .refusal ≡ 10) × (n .place ≡ 0)
+  -- and else the first bad mark, with its number and at its index
+  pub first-bad : refusalOf t 0 ≡ 0 → length marks ≤ 12 * t .term → (k i : ℕ) → FirstBad marks k i → (n .refusal ≡ k) × (n .place ≡ i)
