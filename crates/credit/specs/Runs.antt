@@ -2,14 +2,16 @@
 -- Assumes nothing.
 use mathlib.Core.Bool.{Bool, true, false}
 use mathlib.Core.List.{List, [], _∷_, map}
-use Prim.Native.Nat.{ℕ, suc}
+use mathlib.Core.Path.{_≡_}
+use Prim.Native.Nat.{ℕ, suc, _≤_, _<_}
 use lib.Dec.{eqb}
+use lib.ListN.{getD}
 
 -- which marks are paid
 abbrev pub paid : List ℕ → List Bool
 paid = map (λ mark. eqb mark 1)
 
--- a paid run: the marks from index `from` up to but not including `to` are 1, and those beside them are not
+-- a paid run: the marks from index `from` up to but not including `to`
 pub record Run : Type 0 where
   pub from : ℕ
   pub to : ℕ
@@ -33,6 +35,16 @@ unfoldable mutual
 -- the paid runs of the marks, in order
 unfoldable pub runsIn : List ℕ → List Run
 runsIn marks = runsFrom 0 (paid marks)
+
+-- an unbroken paid run without recursion; proofs/Unbroken.antt shows that `runsIn` has just these
+pub record Unbroken (marks : List ℕ) (r : Run) : Type 0 where
+  -- it has a mark
+  pub some : r .from < r .to
+  -- its marks are 1
+  pub inside : (i : ℕ) → r .from ≤ i → i < r .to → getD marks i 0 ≡ 1
+  -- those beside it are not
+  pub before : (i : ℕ) → suc i ≡ r .from → getD marks i 0 ≡ 1 → ⊥
+  pub after : getD marks (r .to) 0 ≡ 1 → ⊥
 
 -- how many marks are paid where the one before is not; `before` tells of the mark before the list
 unfoldable pub startsAfter : Bool → List Bool → ℕ
