@@ -42,7 +42,7 @@ extern "C" {
 #define AP_REFUSED_PENSION_AGE 2u    /* the pension age is not from 65 years 0 months to 68 years 0 months, or months exceed 11 */
 #define AP_REFUSED_TERM 3u           /* the term is above 20 */
 #define AP_REFUSED_PAYER 4u          /* the payer is not 1 or 2, or an employer has a term above 0 */
-#define AP_REFUSED_NO_RATE 5u        /* no printed rate for this age and term: Table S, or the only or lower monthly table */
+#define AP_REFUSED_NO_RATE 5u        /* no printed lump sum at a needed pension age, or no rate in the only or lower monthly table */
 #define AP_REFUSED_NO_UPPER_RATE 6u  /* no printed rate for this age and term in the upper monthly table */
 #define AP_REFUSED_AMOUNT 7u         /* the amount is 0 or not a multiple of 250 pounds */
 #define AP_REFUSED_CAP 8u            /* existing pension and the new amount exceed 6,500 pounds a year */

@@ -13,7 +13,7 @@ pub enum Refusal {
     Term,
     /// 4: the payer is neither of the two, or an employer pays by the month.
     Payer,
-    /// 5: nothing is printed for the age in Table S, or for this age and term in the only or lower monthly table.
+    /// 5: no lump sum is printed for this age at a needed pension age, or no rate for this age and term in the only or lower monthly table.
     NoRate,
     /// 6: nothing is printed for this age and term in the upper monthly table.
     NoUpperRate,

@@ -4,6 +4,7 @@
 
 use reference::samples::{self, Random};
 use std::env;
+use std::fs::{File, OpenOptions};
 use std::io::{Read, Write};
 use std::path::PathBuf;
 use std::process::{Command, Stdio};
@@ -149,6 +150,21 @@ fn odd_files() {
         }
         assert_listed(what, file, 10_007);
     }
+}
+
+/// Where reading or writing fails, the program says so on standard error and prints nothing more.
+#[test]
+fn failures_are_said() {
+    let folder = File::open(env::temp_dir()).expect("the folder for temporary files can be opened");
+    let unread = Command::new(program()).stdin(folder).output().expect("the program starts");
+    assert_eq!((&unread.stdout[..], &unread.stderr[..]), (&b""[..], &b"settle_cases: reading failed\n"[..]));
+
+    let full = OpenOptions::new().write(true).open("/dev/full").expect("there is a full device");
+    let mut child =
+        Command::new(program()).stdin(Stdio::piped()).stdout(full).stderr(Stdio::piped()).spawn().expect("the program starts");
+    child.stdin.take().expect("its standard input is a pipe").write_all(SOUND).expect("the program reads");
+    let unwritten = child.wait_with_output().expect("the program ends");
+    assert_eq!(unwritten.stderr, b"settle_cases: writing failed\n");
 }
 
 /// Every length of a line about the edges of a reader's buffer.

@@ -67,7 +67,7 @@ impl Terms {
             return 5;
         }
         if self.pension_age_months > 0 && self.rate(self.pension_age_years + 1).is_none() {
-            return 6;
+            return if self.term == 0 { 5 } else { 6 };
         }
         if self.amount == 0 || !self.amount.is_multiple_of(STEP) {
             return 7;
