@@ -97,3 +97,9 @@ module _ (p : List ℕ) (bs : List ℕ) where
 
   pub end-kept : writtenAtEnd (openAfter (take 286 p) bs) ≡ writtenAtEnd (openAfter p bs)
   end-kept = same-end (openAfter (take 286 p) bs) (openAfter p bs) (same-open bs (take 286 p) p same-kept)
+
+-- what is kept after two parts is told by what is kept after the first
+pub open-kept : (p a b : List ℕ) → take 286 (openAfter (take 286 (openAfter p a)) b) ≡ take 286 (openAfter p (a ++ b))
+open-kept p a b =
+    let q = openAfter p a in
+    same-open b (take 286 q) q (same-kept q b) ∙ ap (take 286) (sym (open-append p a b))

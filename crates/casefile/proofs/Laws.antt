@@ -5,8 +5,8 @@ use mathlib.Core.Path.{_≡_, sym, ap, _∙_}
 use Prim.Native.Nat.{ℕ, zero, suc, _/_, _<_, _≤_}
 use native.Mathlib.Omega.{arith}
 use lib.Dec.{eqb}
-use lib.ListN.{length, take, drop, length-append}
-use lib.Seq.{take-at}
+use lib.ListN.{length, take, drop, length-append, length-take}
+use lib.Seq.{take-at, take-all}
 use Rattle.common.proofs.Choice.{either}
 use Rattle.casefile.specs.declared.OpenLine.{OpenLine}
 use Rattle.casefile.specs.declared.ChunkSettled.{ChunkSettled}
@@ -15,7 +15,7 @@ use Rattle.casefile.specs.File.{listingOf}
 use Rattle.casefile.specs.Stream.{openAfter, writtenBy, writtenAtEnd, takenWith, bytesOf}
 use Rattle.casefile.specs.Stream.{ChunkNumbers, numbersOf, takenOf, chunkOf, endOf, Calls, at-end, on-chunk}
 use Rattle.casefile.proofs.Last.{end-within, end-writes}
-use Rattle.casefile.proofs.Chunks.{open-append, written-append, listing-from, written-kept, end-kept}
+use Rattle.casefile.proofs.Chunks.{open-append, written-append, listing-from, written-kept, end-kept, open-kept}
 
 taken-within : (n : ℕ) (l : List ℕ) → takenWith n l ≤ length l
 unfolding takenWith
@@ -57,10 +57,21 @@ module _ (o : OpenLine) (chunk out out′ : List ℕ) (r : ChunkSettled) (is : n
       let w = writtenBy (bytesOf o) (take (r .taken) chunk) in
       omega (arith, wrote-is, ap (λ (n : ChunkNumbers). length (n .out)) by-taken ∙ length-append w (drop (length w) out))
 
+  -- what is open after the part that was taken, where `first` came before it and p was open before that
+  pub chunk-keeps : (p first : List ℕ) → bytesOf o ≡ take 286 (openAfter p first)
+      → bytesOf (r .after) ≡ take 286 (openAfter p (first ++ take (r .taken) chunk))
+  chunk-keeps p first e =
+      kept-is ∙ ap (λ (q : List ℕ). take 286 (openAfter q (take (r .taken) chunk))) e ∙ open-kept p first (take (r .taken) chunk)
+
   written-is : take (r .wrote) out′ ≡ writtenBy (bytesOf o) (take (r .taken) chunk)
   written-is =
       let w = writtenBy (bytesOf o) (take (r .taken) chunk) in
       ap (λ (n : ChunkNumbers). take (r .wrote) (n .out)) by-taken ∙ take-at w (drop (length w) out) (r .wrote) (sym wrote-is)
+
+-- at the start all of an open line is kept
+pub all-kept : (o : OpenLine) → length (o .bytes) ≡ 286 → bytesOf o ≡ take 286 (openAfter (bytesOf o) [])
+unfolding openAfter
+all-kept o long = sym (take-all 286 (bytesOf o) (omega (arith, length-take (o .len) (o .bytes))))
 
 -- the end writes no more than it has
 pub end-wrote : (o : OpenLine) {r : EndSettled} → r ≡ endOf (bytesOf o) → r .wrote ≤ 46

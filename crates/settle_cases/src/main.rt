@@ -1,7 +1,8 @@
 // Settles the case file on standard input and prints its listing on standard output, in fixed memory. Where reading or
 // writing fails it stops and says so on standard error, and no line is printed for what was not read to its end.
-ghost use Prim.Native.Nat.{_≤_};
-ghost use lib.ListN.{length};
+ghost use Prim.Native.Nat.{_≤_, _<_};
+ghost use lib.ListN.{length, take};
+ghost use Rattle.settle_cases.specs.Reading.{HandedOn};
 use casefile::OpenLine;
 use libc::STDERR_FILENO;
 use libc::STDIN_FILENO;
@@ -15,15 +16,24 @@ enum Next {
     WriteFailed,
 }
 
-// After a read and what was settled of it: the line that is open, and whether to read on.
-struct Turn {
+// After what was settled of a chunk is printed: the line that is open, and whether to read on.
+struct Printed {
     after: OpenLine,
     next: Next,
 }
 
+// After a read and what was settled of it: the line that is open, how many bytes were read, and whether to read on.
+struct Turn {
+    after: OpenLine,
+    read: usize,
+    next: Next,
+}
+
 // Settles what was read and prints it, as often as the buffer fills.
-fn print_settled(before: OpenLine, chunk: &[u8], out: &mut [u8]) -> Turn
+fn print_settled(before: OpenLine, chunk: &[u8], out: &mut [u8]) -> Printed
     requires { ⌜ 46 ≤ length (now out) ⌝ }
+    requires { ⌜ 0 < length (now chunk) ⌝ }
+    ensures { λ r. ⌜ HandedOn before (now (chunk .entry)) (r .after) (r .next) ⌝ }
 {
     let mut after = before;
     let mut at = 0;
@@ -33,13 +43,13 @@ fn print_settled(before: OpenLine, chunk: &[u8], out: &mut [u8]) -> Turn
         after = done.after;
         at += done.taken;
         if !io::write_all(STDOUT_FILENO, &out[..wrote]) {
-            return Turn {
+            return Printed {
                 after,
                 next: Next::WriteFailed,
             };
         }
     }
-    Turn {
+    Printed {
         after,
         next: Next::ReadOn,
     }
@@ -48,11 +58,14 @@ fn print_settled(before: OpenLine, chunk: &[u8], out: &mut [u8]) -> Turn
 // Reads once, and settles and prints what was read.
 fn read_once(before: OpenLine, chunk: &mut [u8], out: &mut [u8]) -> Turn
     requires { ⌜ 46 ≤ length (now out) ⌝ }
+    ensures { λ r. ⌜ r .read ≤ length (now (chunk .exit)) ⌝ }
+    ensures { λ r. ⌜ HandedOn before (take (r .read) (now (chunk .exit))) (r .after) (r .next) ⌝ }
 {
     let got = libc::read(STDIN_FILENO, chunk);
     if got < 0 {
         return Turn {
             after: before,
+            read: 0,
             next: Next::ReadFailed,
         };
     }
@@ -60,10 +73,18 @@ fn read_once(before: OpenLine, chunk: &mut [u8], out: &mut [u8]) -> Turn
     if n == 0 {
         return Turn {
             after: before,
+            read: 0,
             next: Next::AtEnd,
         };
     }
-    print_settled(before, &chunk[..n], out)
+    let printed = print_settled(before, &chunk[..n], out);
+    let after = printed.after;
+    let next = printed.next;
+    Turn {
+        after,
+        read: n,
+        next,
+    }
 }
 
 fn say_reading_failed() {
@@ -84,6 +105,29 @@ fn print_last(before: OpenLine) {
     }
 }
 
+// Prints what ends the reading: the line that the end of the input ends, or what failed.
+fn print_end(after: OpenLine, next: Next) {
+    match next {
+        Next::ReadOn => {}
+        Next::AtEnd => print_last(after),
+        Next::ReadFailed => say_reading_failed(),
+        Next::WriteFailed => say_writing_failed(),
+    }
+}
+
+// A turn of the loop: reads once, and prints what was settled and what ends the reading.
+fn settle_turn(before: OpenLine, chunk: &mut [u8], out: &mut [u8]) -> Turn
+    requires { ⌜ 46 ≤ length (now out) ⌝ }
+    ensures { λ r. ⌜ r .read ≤ length (now (chunk .exit)) ⌝ }
+    ensures { λ r. ⌜ HandedOn before (take (r .read) (now (chunk .exit))) (r .after) (r .next) ⌝ }
+{
+    let turn = read_once(before, chunk, out);
+    let after = turn.after;
+    let next = turn.next;
+    print_end(after, next);
+    turn
+}
+
 // Reads, settles and prints until the input ends or something fails. The turns count down, since no contract says that the
 // input ends.
 fn settle_input(chunk: &mut [u8], out: &mut [u8])
@@ -92,23 +136,12 @@ fn settle_input(chunk: &mut [u8], out: &mut [u8])
     let mut turns = u64::MAX;
     let mut after = casefile::no_line();
     while turns > 0 {
-        let t = read_once(after, chunk, out);
-        after = t.after;
-        let next = t.next;
+        let turn = settle_turn(after, chunk, out);
+        after = turn.after;
+        let next = turn.next;
         match next {
             Next::ReadOn => turns -= 1,
-            Next::AtEnd => {
-                print_last(after);
-                turns = 0;
-            }
-            Next::ReadFailed => {
-                say_reading_failed();
-                turns = 0;
-            }
-            Next::WriteFailed => {
-                say_writing_failed();
-                turns = 0;
-            }
+            _ => turns = 0,
         }
     }
 }

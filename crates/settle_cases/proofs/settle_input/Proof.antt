@@ -18,8 +18,8 @@ no-line-requires c κs = search needs
 loop-holds : tie.Need-loop-holds Inv-loop μ-loop
 loop-holds c = search needs
 
-read-once-requires : tie.Need-read-once-requires Inv-loop μ-loop
-read-once-requires c κs = search needs
+settle-turn-requires : tie.Need-settle-turn-requires Inv-loop μ-loop
+settle-turn-requires c κs = search needs
 
 enum-told : tie.Need-enum-told Inv-loop μ-loop
 enum-told c = search needs
@@ -33,41 +33,11 @@ loop-less c = search needs
 loop-again : tie.Need-loop-again Inv-loop μ-loop
 loop-again c = search needs
 
-enum-told-2 : tie.Need-enum-told-2 Inv-loop μ-loop
-enum-told-2 c = search needs
-
-print-last-requires : tie.Need-print-last-requires Inv-loop μ-loop
-print-last-requires c κs = search needs
-
 loop-less-2 : tie.Need-loop-less-2 Inv-loop μ-loop
 loop-less-2 c = search needs
 
 loop-again-2 : tie.Need-loop-again-2 Inv-loop μ-loop
 loop-again-2 c = search needs
-
-enum-told-3 : tie.Need-enum-told-3 Inv-loop μ-loop
-enum-told-3 c = search needs
-
-say-reading-failed-requires : tie.Need-say-reading-failed-requires Inv-loop μ-loop
-say-reading-failed-requires c κs = search needs
-
-loop-less-3 : tie.Need-loop-less-3 Inv-loop μ-loop
-loop-less-3 c = search needs
-
-loop-again-3 : tie.Need-loop-again-3 Inv-loop μ-loop
-loop-again-3 c = search needs
-
-enum-told-4 : tie.Need-enum-told-4 Inv-loop μ-loop
-enum-told-4 c = search needs
-
-say-writing-failed-requires : tie.Need-say-writing-failed-requires Inv-loop μ-loop
-say-writing-failed-requires c κs = search needs
-
-loop-less-4 : tie.Need-loop-less-4 Inv-loop μ-loop
-loop-less-4 c = search needs
-
-loop-again-4 : tie.Need-loop-again-4 Inv-loop μ-loop
-loop-again-4 c = search needs
 
 same-length : tie.Need-same-length Inv-loop μ-loop
 same-length c = search needs
@@ -86,23 +56,13 @@ settle-input-spec =
     μ-loop
     no-line-requires
     loop-holds
-    read-once-requires
+    settle-turn-requires
     enum-told
     sub-turns
     loop-less
     loop-again
-    enum-told-2
-    print-last-requires
     loop-less-2
     loop-again-2
-    enum-told-3
-    say-reading-failed-requires
-    loop-less-3
-    loop-again-3
-    enum-told-4
-    say-writing-failed-requires
-    loop-less-4
-    loop-again-4
     same-length
     same-length-2
     returns)
