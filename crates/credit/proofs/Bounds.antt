@@ -1,33 +1,33 @@
 -- No mark earns more than a bound of all the years, so that a credit fits its type.
 -- Assumes nothing.
-use mathlib.Core.Bool.{Bool, true, false}
 use mathlib.Core.List.{List, [], _∷_}
-use Prim.Native.Nat.{ℕ, suc, _+_, _*_, _≤_}
+use Prim.Native.Nat.{ℕ, suc, _*_, _≤_}
+use native.Mathlib.Nat.{mul-le-mul-right}
 use native.Mathlib.Omega.{arith}
 use lib.ListN.{length, getD}
 use Rattle.rounding.specs.Rounding.{WithinHalf}
 use Rattle.years.specs.Years.{monthValue}
-use Rattle.credit.specs.Runs.{paid, runsFrom, runFrom, runsIn}
+use Rattle.credit.specs.Runs.{Run, runsIn}
 use Rattle.credit.specs.Credit.{earned, creditOver}
-use Rattle.credit.proofs.Runs.{length-paid}
+use Rattle.credit.proofs.Months.{by-months, added-most}
+use Rattle.credit.proofs.Order.{Ordered, runs-ordered}
 use Rattle.years.proofs.Years.{month-most}
 
-module _ (value : ℕ → ℕ) (u : ℕ) (most : (month : ℕ) → value month ≤ u) where
-  mutual
-    unfolding earned runsFrom runFrom
-
-    outside : (ps : List Bool) (i : ℕ) → earned value (runsFrom i ps) ≤ length ps * u
-    outside [] i = omega arith
-    outside (true ∷ ps) i = omega (arith, inside ps i (suc i))
-    outside (false ∷ ps) i = omega (arith, outside ps (suc i))
-
-    inside : (ps : List Bool) (a i : ℕ) → earned value (runFrom a i ps) ≤ length ps * u + u
-    inside [] a i = omega (arith, most i)
-    inside (true ∷ ps) a i = omega (arith, inside ps a (suc i))
-    inside (false ∷ ps) a i = omega (arith, outside ps (suc i), most i)
+-- a run earns no more of a value up to u than of one that grows by u in every month
+each-most : (value : ℕ → ℕ) (u : ℕ) → ((month : ℕ) → value month ≤ u) → (rs : List Run) (i : ℕ) → Ordered i rs
+    → earned value rs ≤ earned (λ (month : ℕ). month * u) rs
+unfolding earned Ordered
+each-most value u most [] i o = omega arith
+each-most value u most (r ∷ rs) i o =
+    omega (arith, most (r .to), mul-le-mul-right u (o .1), each-most value u most rs (suc (r .to)) (o .2))
 
 module _ (round : ℕ → ℕ → ℕ) (half : WithinHalf round) where
   pub credit-most : (years : List ℕ) (u : ℕ) → ((n : ℕ) → getD years n 0 ≤ u) → (marks : List ℕ) → creditOver round years marks ≤ length marks * u
-  unfolding creditOver runsIn
+  unfolding creditOver
   credit-most years u most marks =
-      rw (← length-paid marks) (outside (monthValue round years) u (month-most round half years u most) (paid marks) 0)
+      omega (
+        arith,
+        each-most (monthValue round years) u (month-most round half years u most) (runsIn marks) 0 (runs-ordered marks),
+        by-months (λ (month : ℕ). month * u) marks (λ i h. omega arith),
+        added-most (λ (month : ℕ). month * u) marks (λ i h. omega arith),
+      )

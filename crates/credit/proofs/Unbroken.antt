@@ -1,177 +1,120 @@
--- The runs of a list of marks are just the unbroken paid runs, as they are described without recursion.
+-- The runs of a list of marks are just the unbroken paid runs, as they are described without recursion, and with their order that
+-- determines them. A month lies in a run just where its mark is paid: so says the credit of a value that grows in that month alone.
 -- Assumes nothing.
 use mathlib.Core.Bool.{Bool, true, false}
-use mathlib.Core.List.{List, [], _∷_, List·Memᴰ, List·Memᴰ·head, List·Memᴰ·tail, List·Memᴰ·not-nil, List·Memᴰ·cases-cons}
-use mathlib.Core.Logic.{_⊎_, inl, inr, ⊎-elim}
-use mathlib.Core.Path.{_≡_, refl, sym, ap, subst, _∙_}
+use mathlib.Core.List.{List, [], _∷_, List·Memᴰ, List·Memᴰ·head, List·Memᴰ·tail, List·Memᴰ·not-nil, List·Memᴰ·cases-cons, Memᴰ·cast}
+use mathlib.Core.Logic.{⊎-elim}
+use mathlib.Core.Path.{_≡_, refl, ap, _∙_}
 use Prim.Native.Nat.{ℕ, zero, suc, _+_, _-_, _≤_, _<_}
-use native.Mathlib.Decide.{ℕ-discrete}
 use native.Mathlib.Omega.{arith}
-use borrow.Author.Tests.{eqb-true, eq-eqb}
-use lib.Dec.{T, eqb}
+use borrow.Author.Tests.{ltb-true, ltb-false, eqb-true, eq-eqb}
+use lib.Dec.{ltb, eqb}
 use lib.ListN.{getD}
-use Rattle.credit.specs.Runs.{Run, _until_, paid, runsFrom, runFrom, runsIn, Unbroken}
+use Rattle.common.specs.Choice.{pick}
+use Rattle.common.proofs.Tests.{by-test}
+use Rattle.credit.specs.Runs.{Run, _until_, paid, runsIn, Unbroken, InOrder}
+use Rattle.credit.specs.Credit.{earned}
+use Rattle.credit.specs.Months.{growth, addedFrom}
+use Rattle.credit.proofs.Months.{by-months}
+use Rattle.credit.proofs.Order.{runs-ordered, begins, meet, runs-in-order, same-runs}
 
--- the same of the paid marks from index i on
-record From (ps : List Bool) (i : ℕ) (r : Run) : Type 0 where
-  some : r .from < r .to
-  inside : (k : ℕ) → r .from ≤ i + k → i + k < r .to → getD ps k false ≡ true
-  before : (k : ℕ) → suc (i + k) ≡ r .from → getD ps k false ≡ true → ⊥
-  after : (k : ℕ) → r .to ≡ i + k → getD ps k false ≡ true → ⊥
+-- a value that grows in month k alone, by 1
+abbrev past : ℕ → ℕ → ℕ
+past k month = 1 - (suc k - month)
 
-never : {A : Type 0} → false ≡ true → A
-never e = absurd (subst T (sym e) tt)
+-- the months after month k add nothing
+none-after : (ps : List Bool) (k i : ℕ) → k < i → addedFrom (growth (past k)) i ps ≡ 0
+unfolding addedFrom
+none-after [] k i h = refl
+none-after (true ∷ ps) k i h = omega (arith, none-after ps k (suc i) (omega arith))
+none-after (false ∷ ps) k i h = none-after ps k (suc i) (omega arith)
 
-by-cases : {P A : Type 0} → Dec P → (P → A) → ((P → ⊥) → A) → A
-by-cases (yes p) f g = f p
-by-cases (no n) f g = g n
-
--- one mark less, and one more in front
-shorter : {p : Bool} {ps : List Bool} {i : ℕ} {r : Run} → From (p ∷ ps) i r → From ps (suc i) r
-shorter f =
-    record {
-      some = f .some;
-      inside = λ k a b. f .inside (suc k) (omega arith) (omega arith);
-      before = λ k e. f .before (suc k) (omega arith);
-      after = λ k e. f .after (suc k) (omega arith);
-    }
-
-longer : (p : Bool) {ps : List Bool} {i : ℕ} {r : Run} → From ps (suc i) r → (r .from ≤ i → i < r .to → p ≡ true)
-    → (suc i ≡ r .from → p ≡ true → ⊥) → (r .to ≡ i → p ≡ true → ⊥) → From (p ∷ ps) i r
-longer p {ps} {i} {r} f in-it first last =
-    record { some = f .some; inside = inside; before = before; after = after }
-  where
-    inside : (k : ℕ) → r .from ≤ i + k → i + k < r .to → getD (p ∷ ps) k false ≡ true
-    inside zero a b = in-it (omega arith) (omega arith)
-    inside (suc k) a b = f .inside k (omega arith) (omega arith)
-
-    before : (k : ℕ) → suc (i + k) ≡ r .from → getD (p ∷ ps) k false ≡ true → ⊥
-    before zero e = first (omega arith)
-    before (suc k) e = f .before k (omega arith)
-
-    after : (k : ℕ) → r .to ≡ i + k → getD (p ∷ ps) k false ≡ true → ⊥
-    after zero e = last (omega arith)
-    after (suc k) e = f .after k (omega arith)
-
--- a run that began at a and ends before the mark at i
-ended : (ps : List Bool) (a i : ℕ) → a < i → (getD ps 0 false ≡ true → ⊥) → From ps i (a until i)
-ended ps a i g stop =
-    record {
-      some = g;
-      inside = λ k p q. absurd (omega arith);
-      before = λ k e. absurd (omega arith);
-      after = after;
-    }
-  where
-    after : (k : ℕ) → i ≡ i + k → getD ps k false ≡ true → ⊥
-    after zero e = stop
-    after (suc k) e = absurd (omega arith)
-
--- every run of the list is unbroken: outside a run, and inside one that began at a
-
-mutual
-  unfolding runsFrom
-
-  outside : (ps : List Bool) (i : ℕ) {r : Run} → List·Memᴰ r (runsFrom i ps) → (i ≤ r .from) × From ps i r
-  outside [] i m = absurd (List·Memᴰ·not-nil m)
-  outside (true ∷ ps) i m =
-      ⊎-elim
-      (λ own. (omega (arith, own .0), longer true (own .2) (λ p q. refl) (λ e. absurd (omega (arith, own .0))) (λ e. absurd (omega (arith, own .1)))))
-      (λ late.
-      (omega (arith, late .0), longer true (late .1) (λ p q. refl) (λ e. absurd (omega (arith, late .0))) (λ e. absurd (omega (arith, late .0, late .1 .some)))))
-      (within ps i (suc i) (omega arith) m)
-  outside (false ∷ ps) i m =
-      let o = outside ps (suc i) m in
-      (omega (arith, o .0), longer false (o .1) (λ p q. absurd (omega (arith, o .0))) (λ e f. never f) (λ e f. never f))
-
-  within : (ps : List Bool) (a i : ℕ) {r : Run} → a < i → List·Memᴰ r (runFrom a i ps)
-      → ((r .from ≡ a) × (i ≤ r .to) × From ps i r) ⊎ ((i < r .from) × From ps i r)
-  within [] a i g m =
-      ⊎-elim (λ e. inl (rw e (refl, omega arith, ended [] a i g never))) (λ n. absurd (List·Memᴰ·not-nil n)) (List·Memᴰ·cases-cons m)
-  within (true ∷ ps) a i g m =
-      ⊎-elim
-      (λ own.
-      inl (own .0, omega (arith, own .1), longer true (own .2) (λ p q. refl) (λ e. absurd (omega (arith, own .0))) (λ e. absurd (omega (arith, own .1)))))
-      (λ late.
-      inr (omega (arith, late .0), longer true (late .1) (λ p q. refl) (λ e. absurd (omega (arith, late .0))) (λ e. absurd (omega (arith, late .0, late .1 .some)))))
-      (within ps a (suc i) (omega arith) m)
-  within (false ∷ ps) a i g m =
-      ⊎-elim
-      (λ e. inl (rw e (refl, omega arith, ended (false ∷ ps) a i g never)))
-      (λ n.
-      let o = outside ps (suc i) n in
-      inr (omega (arith, o .0), longer false (o .1) (λ p q. absurd (omega (arith, o .0))) (λ e f. never f) (λ e f. never f)))
-      (List·Memᴰ·cases-cons m)
-
--- every unbroken run is in the list
-
-is-run : (r : Run) (a b : ℕ) → r .from ≡ a → r .to ≡ b → r ≡ (a until b)
-is-run r a b e f = ap (λ (n : ℕ). n until r .to) e ∙ ap (λ (n : ℕ). a until n) f
-
--- a mark that the run holds is paid
-held : {p : Bool} {ps : List Bool} {i : ℕ} {r : Run} → From (p ∷ ps) i r → r .from ≤ i → i < r .to → p ≡ true
-held f a b = f .inside 0 (omega arith) (omega arith)
-
--- no run begins beyond the marks
-none-left : {A : Type 0} {i : ℕ} {r : Run} → From [] i r → i ≤ r .from → A
-none-left {i = i} {r = r} f h = never (f .inside (r .from - i) (omega arith) (omega (arith, f .some)))
-
-mutual
-  unfolding runsFrom
-
-  find : (ps : List Bool) (i : ℕ) {r : Run} → i ≤ r .from → From ps i r → List·Memᴰ r (runsFrom i ps)
-  find [] i h f = none-left f h
-  find (true ∷ ps) i {r} h f =
-      let apart : suc i ≡ r .from → ⊥ = λ e. f .before 0 (omega arith) refl in
-      by-cases (ℕ-discrete (r .from) i) (λ e. find-own ps i (suc i) e (omega arith) (omega (arith, f .some)) (shorter f))
-      (λ n. find-late ps i (suc i) (omega (arith, apart, n)) (shorter f))
-  find (false ∷ ps) i {r} h f =
-      let apart : r .from ≡ i → ⊥ = λ e. never (held f (omega arith) (omega (arith, f .some))) in
-      find ps (suc i) (omega (arith, apart)) (shorter f)
-
-  find-own : (ps : List Bool) (a i : ℕ) {r : Run} → r .from ≡ a → a < i → i ≤ r .to → From ps i r → List·Memᴰ r (runFrom a i ps)
-  find-own [] a i {r} e g h f =
-      let end : i < r .to → ⊥ = λ p. never (f .inside 0 (omega arith) (omega arith)) in
-      List·Memᴰ·head (is-run r a i e (omega (arith, end)))
-  find-own (true ∷ ps) a i {r} e g h f =
-      let apart : r .to ≡ i → ⊥ = λ p. f .after 0 (omega arith) refl in
-      find-own ps a (suc i) e (omega arith) (omega (arith, apart)) (shorter f)
-  find-own (false ∷ ps) a i {r} e g h f =
-      let end : i < r .to → ⊥ = λ p. never (held f (omega arith) p) in
-      List·Memᴰ·head (is-run r a i e (omega (arith, end)))
-
-  find-late : (ps : List Bool) (a i : ℕ) {r : Run} → i < r .from → From ps i r → List·Memᴰ r (runFrom a i ps)
-  find-late [] a i h f = none-left f (omega arith)
-  find-late (true ∷ ps) a i {r} h f =
-      let apart : suc i ≡ r .from → ⊥ = λ e. f .before 0 (omega arith) refl in
-      find-late ps a (suc i) (omega (arith, apart)) (shorter f)
-  find-late (false ∷ ps) a i h f = List·Memᴰ·tail (find ps (suc i) (omega arith) (shorter f))
-
--- the same of the marks themselves
+-- month k itself adds 1, where it is paid
+one-month : (ps : List Bool) (k i n : ℕ) → k ≡ i + n → addedFrom (growth (past k)) i ps ≡ pick (getD ps n false) 1 0
+unfolding addedFrom
+one-month [] k i n e = refl
+one-month (true ∷ ps) k i zero e = omega (arith, none-after ps k (suc i) (omega arith))
+one-month (true ∷ ps) k i (suc n) e = omega (arith, one-month ps k (suc i) n (omega arith))
+one-month (false ∷ ps) k i zero e = none-after ps k (suc i) (omega arith)
+one-month (false ∷ ps) k i (suc n) e = one-month ps k (suc i) n (omega arith)
 
 paid-at : (marks : List ℕ) (k : ℕ) → getD (paid marks) k false ≡ eqb (getD marks k 0) 1
 paid-at [] k = refl
 paid-at (m ∷ marks) zero = refl
 paid-at (m ∷ marks) (suc k) = paid-at marks k
 
+-- so the runs of the marks earn it just where the mark is 1
+month-earned : (marks : List ℕ) (k : ℕ) → earned (past k) (runsIn marks) ≡ pick (eqb (getD marks k 0) 1) 1 0
+month-earned marks k =
+    by-months (past k) marks (λ i h. omega arith) ∙ one-month (paid marks) k 0 k (omega arith) ∙ rw (paid-at marks k)
+
+-- a run holds a month
+abbrev Holds : ℕ → Run → Type 0
+Holds k r = (r .from ≤ k) × (k < r .to)
+
+-- runs earn that value just where one of them holds month k
+held : (k : ℕ) (rs : List Run) → 0 < earned (past k) rs → (r : Run) × List·Memᴰ r rs × Holds k r
+unfolding earned
+held k [] h = absurd (omega arith)
+held k (r ∷ rs) h =
+    let own = past k (r .to) - past k (r .from) in
+    by-test (ltb 0 own)
+    (λ t. let some = ltb-true 0 own t in (r, List·Memᴰ·head refl, (omega arith, omega arith)))
+    (λ t.
+    let rest = held k rs (omega (arith, ltb-false 0 own t)) in
+    (rest .0, List·Memᴰ·tail (rest .1), rest .2))
+
+earns : (k : ℕ) (rs : List Run) (r : Run) → List·Memᴰ r rs → Holds k r → 0 < earned (past k) rs
+unfolding earned
+earns k [] r m h = absurd (List·Memᴰ·not-nil m)
+earns k (s ∷ rs) r m h =
+    ⊎-elim (λ e. omega (arith, ap (λ (x : Run). x .from) e, ap (λ (x : Run). x .to) e)) (λ n. omega (arith, earns k rs r n h))
+    (List·Memᴰ·cases-cons m)
+
+-- a paid month lies in a run, and a month in a run is paid
+paid-held : (marks : List ℕ) (k : ℕ) → getD marks k 0 ≡ 1 → (r : Run) × List·Memᴰ r (runsIn marks) × Holds k r
+paid-held marks k one = held k (runsIn marks) (rw (month-earned marks k, eq-eqb (getD marks k 0) 1 one) (omega arith))
+
+held-paid : (marks : List ℕ) (k : ℕ) (r : Run) → List·Memᴰ r (runsIn marks) → Holds k r → getD marks k 0 ≡ 1
+held-paid marks k r m h =
+    by-test (eqb (getD marks k 0) 1) (λ t. eqb-true _ 1 t)
+    (λ t. let none : earned (past k) (runsIn marks) ≡ 0 = month-earned marks k ∙ rw t in absurd (omega (arith, earns k (runsIn marks) r m h)))
+
 pub runs-unbroken : (marks : List ℕ) (r : Run) → List·Memᴰ r (runsIn marks) → Unbroken marks r
-unfolding runsIn
 runs-unbroken marks r m =
-    let f = outside (paid marks) 0 m .1 in
+    let some = begins (runsIn marks) (runs-ordered marks) r m .1 in
+    -- a run that meets r is r
+    let one : (s : Run) → List·Memᴰ s (runsIn marks) → r .from ≤ s .to → s .from ≤ r .to → r ≡ s =
+    λ s n. meet (runsIn marks) 0 (runs-ordered marks) r s m n in
     record {
-      some = f .some;
-      inside = λ i a b. eqb-true _ 1 (sym (paid-at marks i) ∙ f .inside i (omega arith) (omega arith));
-      before = λ i e one. f .before i (omega arith) (paid-at marks i ∙ eq-eqb _ 1 one);
-      after = λ one. f .after (r .to) (omega arith) (paid-at marks (r .to) ∙ eq-eqb _ 1 one);
+      some = some;
+      inside = λ i a b. held-paid marks i r m (a, b);
+      before = λ i e paid.
+          let s = paid-held marks i paid in
+          omega (arith, s .2, ap (λ (x : Run). x .from) (one (s .0) (s .1) (omega (arith, s .2)) (omega (arith, s .2))));
+      after = λ paid.
+          let s = paid-held marks (r .to) paid in
+          omega (arith, s .2, ap (λ (x : Run). x .to) (one (s .0) (s .1) (omega (arith, s .2)) (omega (arith, s .2))));
     }
 
+-- two unbroken runs are one, where the one holds the first month of the other
+same-run : (marks : List ℕ) (r s : Run) → Unbroken marks r → Unbroken marks s → Holds (r .from) s → r ≡ s
+same-run marks r s u v h =
+    let some = u .some in
+    let first : s .from < r .from → ⊥ = λ p. u .before (r .from - 1) (omega arith) (v .inside (r .from - 1) (omega arith) (omega arith)) in
+    let longer : s .to < r .to → ⊥ = λ p. v .after (u .inside (s .to) (omega arith) p) in
+    let shorter : r .to < s .to → ⊥ = λ p. u .after (v .inside (r .to) (omega arith) p) in
+    ap (λ (n : ℕ). n until r .to) (omega (arith, first)) ∙ ap (λ (n : ℕ). s .from until n) (omega (arith, longer, shorter))
+
 pub unbroken-runs : (marks : List ℕ) (r : Run) → Unbroken marks r → List·Memᴰ r (runsIn marks)
-unfolding runsIn
 unbroken-runs marks r u =
-    find (paid marks) 0 (omega arith)
-    (record {
-      some = u .some;
-      inside = λ k a b. paid-at marks k ∙ eq-eqb _ 1 (u .inside k (omega arith) (omega arith));
-      before = λ k e one. u .before k (omega arith) (eqb-true _ 1 (sym (paid-at marks k) ∙ one));
-      after = λ k e one. u .after (rw (let same : r .to ≡ k = omega arith in same) (eqb-true _ 1 (sym (paid-at marks k) ∙ one)));
-    })
+    let some = u .some in
+    let s = paid-held marks (r .from) (u .inside (r .from) (omega arith) some) in
+    Memᴰ·cast (same-run marks r (s .0) u (runs-unbroken marks (s .0) (s .1)) (s .2)) (s .1)
+
+-- a list in order that has just the unbroken runs is the list of the runs
+pub runs-determined : (marks : List ℕ) (rs : List Run) → InOrder rs → ((r : Run) → List·Memᴰ r rs → Unbroken marks r)
+    → ((r : Run) → Unbroken marks r → List·Memᴰ r rs) → rs ≡ runsIn marks
+runs-determined marks rs o each all =
+    same-runs rs (runsIn marks) o (runs-in-order marks) (λ r m. each r m .some) (λ r m. unbroken-runs marks r (each r m))
+    (λ r m. all r (runs-unbroken marks r m))

@@ -1,3 +1,4 @@
 pub mod Runs
 pub mod Credit
+pub mod Months
 pub mod Earned

@@ -46,6 +46,12 @@ pub record Unbroken (marks : List ℕ) (r : Run) : Type 0 where
   pub before : (i : ℕ) → suc i ≡ r .from → getD marks i 0 ≡ 1 → ⊥
   pub after : getD marks (r .to) 0 ≡ 1 → ⊥
 
+-- runs in order: each ends before the next begins. Only `runsIn` is so and has just the unbroken runs (proofs/Unbroken.antt).
+unfoldable pub InOrder : List Run → Type 0
+InOrder [] = Unit {0}
+InOrder (r ∷ []) = Unit {0}
+InOrder (r ∷ (s ∷ rs)) = (r .to < s .from) × InOrder (s ∷ rs)
+
 -- how many marks are paid where the one before is not; `before` tells of the mark before the list
 unfoldable pub startsAfter : Bool → List Bool → ℕ
 startsAfter before [] = 0

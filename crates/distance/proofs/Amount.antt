@@ -14,9 +14,9 @@ use Rattle.years.specs.SoundRates.{Falling}
 use Rattle.credit.specs.Runs.{_until_, paid, runsFrom, runFrom, runsIn}
 use Rattle.credit.specs.Credit.{earned, creditOver, creditIn}
 use Rattle.years.proofs.Years.{year-none, year-within, years-most, month-most}
+use Rattle.credit.proofs.Months.{added-most}
 use Rattle.distance.specs.Distance.{Purchases, creditBy, Sound}
-use Rattle.distance.proofs.Months.{month-year, month-rises}
-use Rattle.distance.proofs.Runs.{earned-most}
+use Rattle.distance.proofs.Months.{month-year, next-rises, credit-by-months}
 use Rattle.distance.proofs.Tables.{tables}
 
 one-run : (n a i : ℕ) → runFrom a i (paid (replicate n 1)) ≡ (a until (i + n)) ∷ []
@@ -33,12 +33,12 @@ module _ (round : ℕ → ℕ → ℕ) (half : WithinHalf round) where
   module _ (mono : Monotone round) where
     table-most : (p : Purchase) → p .term ≤ 20 → Falling p → (marks : List ℕ) → length marks ≤ 12 * p .term
         → creditIn round p marks ≤ p .units * unit
-    unfolding creditIn creditOver
     table-most p short falling marks fits =
         omega (
           arith,
-          earned-most (monthValue round (yearCredits round p)) (12 * p .term) (month-rises round mono p short falling) marks fits,
-          month-most round half (yearCredits round p) (p .units * unit) (years-most round half p short falling) (12 * p .term),
+          credit-by-months round mono p short falling marks fits,
+          added-most (monthValue round (yearCredits round p)) marks (λ i h. next-rises round mono p short falling i (omega arith)),
+          month-most round half (yearCredits round p) (p .units * unit) (years-most round half p short falling) (length marks),
         )
 
     pub contract-most : (c : Purchases) → Sound c → (marks : List ℕ) → length marks ≤ 12 * c .lower .term

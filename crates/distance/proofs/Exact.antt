@@ -10,11 +10,11 @@ use lib.ListN.{length}
 use Rattle.money.specs.Limits.{unit}
 use Rattle.years.specs.Years.{Purchase, ownContribution, yearCredit}
 use Rattle.years.specs.SoundRates.{Falling}
+use Rattle.credit.specs.Months.{addedFrom}
 use Rattle.years.proofs.Years.{year-none, year-within}
 use Rattle.distance.specs.Exact.{exactYear, exactMonth, exactFrom}
 use Rattle.distance.proofs.Denominator.{IsOver, none-is, plus-is, minus-is, divided-is, product, product-positive, divides-product}
 use Rattle.distance.proofs.Line.{line, line-step}
-use Rattle.distance.proofs.Near.{added}
 
 -- one denominator for all years of a table
 pub denominator : Purchase → ℕ
@@ -73,8 +73,8 @@ module _ (p : Purchase) (falling : Falling p) where
   over-step i h = omega (arith, line-step (exactOver p) i, over-rises (i / 12) (omega arith))
 
   pub exact-is : (ps : List Bool) (i : ℕ) → i + length ps ≤ 12 * p .term
-      → IsOver (exactFrom p i ps) (added (monthOver p) i ps) (12 * denominator p)
-  unfolding exactFrom exactMonth added
+      → IsOver (exactFrom p i ps) (addedFrom (monthOver p) i ps) (12 * denominator p)
+  unfolding exactFrom exactMonth addedFrom
   exact-is [] i h = none-is (12 * denominator p)
   exact-is (true ∷ ps) i h =
       plus-is (divided-is 12 (omega arith) (minus-is (year-is (suc (i / 12)) (omega arith)) (year-is (i / 12) (omega arith))))

@@ -8,12 +8,12 @@ use Prim.Native.Nat.{ℕ, suc, _+_, _*_, _-_, _/_, _%_, _≤_, _<_}
 use native.Mathlib.Nat.{mul-le-mul-left, le-of-mul-le-mul-right}
 use native.Mathlib.Omega.{arith}
 use lib.ListN.{length}
-use Rattle.rounding.specs.Rounding.{WithinHalf}
+use Rattle.rounding.specs.Rounding.{WithinHalf, Monotone}
 use Rattle.money.specs.Limits.{unit}
 use Rattle.years.specs.Years.{Purchase, ownContribution, yearCredit, yearCredits, monthValue}
 use Rattle.years.specs.SoundRates.{Falling}
-use Rattle.credit.specs.Runs.{paid, runsIn, startsAfter, runCount}
-use Rattle.credit.specs.Credit.{creditOver, creditIn}
+use Rattle.credit.specs.Runs.{paid, startsAfter, runCount}
+use Rattle.credit.specs.Credit.{creditIn}
 use Rattle.years.proofs.Years.{year-none, year-within, year-or-none}
 use Rattle.credit.proofs.Runs.{length-paid}
 use Rattle.distance.specs.Exact.{exactCredit}
@@ -21,7 +21,7 @@ use Rattle.distance.specs.Distance.{Within}
 use Rattle.distance.proofs.Denominator.{within}
 use Rattle.distance.proofs.Exact.{denominator, share, exactOver, monthOver, denominator-positive, over-exact, over-step, exact-is}
 use Rattle.distance.proofs.Line.{line}
-use Rattle.distance.proofs.Months.{on-line, month-year}
+use Rattle.distance.proofs.Months.{on-line, month-year, next-rises, credit-by-months}
 use Rattle.distance.proofs.Near.{Close, blend-near, near-first}
 
 module _ (round : ℕ → ℕ → ℕ) (half : WithinHalf round) (p : Purchase) (short : p .term ≤ 20) (falling : Falling p) where
@@ -48,16 +48,16 @@ module _ (round : ℕ → ℕ → ℕ) (half : WithinHalf round) (p : Purchase) 
       (year-near n) (year-near (suc n)) in
       rw (on-line round p short i) (omega arith)
 
-  pub table-distance : (marks : List ℕ) (rest : List Bool) → paid marks ≡ true ∷ rest → length marks ≤ 12 * p .term
+  pub table-distance : Monotone round → (marks : List ℕ) (rest : List Bool) → paid marks ≡ true ∷ rest → length marks ≤ 12 * p .term
       → Within (creditIn round p marks) (exactCredit p marks) (2 * (2 * runCount marks - 1))
-  unfolding creditIn creditOver exactCredit runsIn runCount startsAfter
-  table-distance marks rest e h =
-      let l : suc (length rest) ≤ 12 * p .term = omega (arith, length-paid marks, ap length e) in
+  unfolding exactCredit runCount startsAfter
+  table-distance mono marks rest e h =
+      let l : length (true ∷ rest) ≤ 12 * p .term = omega (arith, length-paid marks, ap length e) in
       let none : monthValue round (yearCredits round p) 0 ≡ 0 = month-year round half p short 0 ∙ year-none round p in
       let none′ : line (exactOver p) 0 ≡ 0 = omega (arith, year-none (share p) p) in
       let near = near-first (monthValue round (yearCredits round p)) (line (exactOver p)) (monthOver p) (12 * denominator p)
-      (12 * p .term) (over-step p falling) (λ i g. month-near i) none none′ rest l in
+      (12 * p .term) (next-rises round mono p short falling) (over-step p falling) (λ i g. month-near i) none none′ (true ∷ rest) l in
       let bound : 2 * (2 * suc (startsAfter true rest) - 1) ≡ 4 * startsAfter true rest + 2 = omega arith in
-      rw (e, bound)
+      rw (credit-by-months round mono p short falling marks h, e, bound)
       (within _ _ (omega (arith, denominator-positive p falling)) (exact-is p falling (true ∷ rest) 0 (omega arith))
       (omega (arith, near)))
