@@ -1,21 +1,21 @@
 -- What callers use of an election's refusal and price, without opening either.
 -- Assumes nothing.
 use mathlib.Core.Bool.{Bool, true, false, not, _||_}
-use mathlib.Core.Path.{_≡_, refl, sym, ap, subst, _∙_}
+use mathlib.Core.Path.{_≡_, refl, ap, _∙_}
 use Prim.Native.Nat.{ℕ, _+_, _%_, _≤_, _<_}
-use native.Mathlib.Nat.{mul-le-mul}
+use native.Mathlib.Nat.{mul-le-mul, mul-pos}
 use native.Mathlib.Omega.{arith}
-use lib.Dec.{T, ltb, eqb}
-use borrow.Author.Tests.{ltb-false, eqb-true, eqb-false, eq-eqb, ne-eqb, not-false}
-use Rattle.common.specs.Choice.{pick}
-use Rattle.common.proofs.Choice.{either, not-first, chosen-number}
-use Rattle.common.proofs.Tests.{or-false}
-use Rattle.rounding.proofs.Laws.{combine-most}
+use lib.Dec.{ltb, eqb}
+use borrow.Author.Tests.{ltb-false, eqb-true, eq-eqb, ne-eqb, not-false}
+use Rattle.common.proofs.Choice.{chosen-number}
+use Rattle.common.proofs.Tests.{never, or-false}
+use Rattle.rounding.proofs.Laws.{combine-most, combine-least}
 use Rattle.money.specs.Limits.{stepPounds}
 use Rattle.terms.specs.declared.Terms.{Terms}
 use Rattle.election.specs.declared.Priced.{Priced}
 use Rattle.terms.specs.Rate.{tableRate}
-use Rattle.terms.specs.Rules.{wrongOption, wrongPensionAge, wrongTerm, wrongPayer, noLowerRate, noUpperRate, wrongAmount, aboveCap, refusalOf}
+use Rattle.terms.specs.Rules.{wrongOption, wrongPensionAge, wrongTerm, wrongAmount, aboveCap, refusalOf}
+use Rattle.terms.proofs.Laws.{terms-pass, price-pass, none-refuses, lower-rate, upper-rate}
 use Rattle.election.specs.Price.{contributionAt, contributionIn, contributionOf, refused, accepted, pricedOf}
 use Rattle.election.specs.Told.{PensionAgeIn, Accepted}
 use Rattle.election.proofs.Rates.{table-rate-most}
@@ -47,10 +47,6 @@ module _ (t : Terms) (existing : ℕ) where
   pub priced-contribution : refusalOf t existing ≡ 0 → pricedOf t existing .contribution .0 ≡ contributionOf t
   priced-contribution h = rw (priced-accepted h)
 
--- A chain gives 0 only where its first test fails and the rest gives 0.
-passed : (b : Bool) (n rest : ℕ) → 0 < n → pick b n rest ≡ 0 → (b ≡ false) × (rest ≡ 0)
-passed b n rest p = not-first (λ x. x ≡ 0) b n rest (λ z. omega arith)
-
 option-in : (t : Terms) → wrongOption t ≡ false → (1 ≤ t .option) × (t .option ≤ 2)
 unfolding wrongOption
 option-in t e = go (eqb (t .option) 1) (eqb (t .option) 2) refl refl (not-false _ e)
@@ -58,55 +54,29 @@ option-in t e = go (eqb (t .option) 1) (eqb (t .option) 2) refl refl (not-false 
     go : (a b : Bool) → eqb (t .option) 1 ≡ a → eqb (t .option) 2 ≡ b → (a || b) ≡ true → (1 ≤ t .option) × (t .option ≤ 2)
     go true b p q h = omega (arith, eqb-true (t .option) 1 p)
     go false true p q h = omega (arith, eqb-true (t .option) 2 q)
-    go false false p q h = absurd (subst T (sym h) tt)
-
-upper-in : (t : Terms) → noUpperRate t ≡ false → (t .months ≡ 0 → ⊥) → 0 < tableRate t (t .years + 1)
-unfolding noUpperRate
-upper-in t e odd =
-    let some : eqb (tableRate t (t .years + 1)) 0 ≡ false = rw (ne-eqb (t .months) 0 odd) at e in
-    omega (arith, eqb-false (tableRate t (t .years + 1)) 0 some)
+    go false false p q h = never h
 
 -- what terms that no rule refuses have
 pub accepted-facts : (t : Terms) (existing : ℕ) → refusalOf t existing ≡ 0 → Accepted t existing
-unfolding refusalOf wrongTerm noLowerRate wrongAmount aboveCap
+unfolding wrongTerm wrongAmount aboveCap
 accepted-facts t existing e =
-    let r1 = passed (wrongOption t) 1 _ (omega arith) e in
-    let r2 = passed (wrongPensionAge t) 2 _ (omega arith) (r1 .1) in
-    let r3 = passed (wrongTerm t) 3 _ (omega arith) (r2 .1) in
-    let r4 = passed (wrongPayer t) 4 _ (omega arith) (r3 .1) in
-    let r5 = passed (noLowerRate t) 5 _ (omega arith) (r4 .1) in
-    let r6 = passed (noUpperRate t) 6 _ (omega arith) (r5 .1) in
-    let r7 = passed (wrongAmount t) 7 _ (omega arith) (r6 .1) in
-    let r8 = passed (aboveCap t existing) 8 0 (omega arith) (r7 .1) in
-    let amount = or-false (ltb (t .amount) stepPounds) (not (eqb (t .amount % stepPounds) 0)) (r7 .0) in
+    let none = none-refuses t existing e in
+    let terms = terms-pass t (none .0) in
+    let price = price-pass t existing (none .1) in
+    let amount = or-false (ltb (t .amount) stepPounds) (not (eqb (t .amount % stepPounds) 0)) (price .amount) in
     let even : t .amount % stepPounds ≡ 0 = eqb-true (t .amount % stepPounds) 0 (not-false _ (amount .1)) in
-    let option = option-in t (r1 .0) in
+    let option = option-in t (terms .option) in
     record {
       option-low = option .0;
       option-high = option .1;
-      pension-age = pension-age-in t (r2 .0);
-      term-high = ltb-false _ _ (r3 .0);
-      lower-rate = omega (arith, eqb-false (tableRate t (t .years)) 0 (r5 .0));
-      upper-rate = upper-in t (r6 .0);
+      pension-age = pension-age-in t (terms .pension-age);
+      term-high = ltb-false _ _ (terms .term);
+      lower-rate = lower-rate t (price .rate);
+      upper-rate = upper-rate t (price .rate) (price .upper);
       amount-low = ltb-false _ _ (amount .0);
       whole = omega arith;
-      under-cap = ltb-false _ _ (r8 .0);
+      under-cap = ltb-false _ _ (price .cap);
     }
-
--- the greatest refusal of an election
-pub refusal-most : (t : Terms) (existing : ℕ) → refusalOf t existing ≤ 8
-unfolding refusalOf
-refusal-most t existing =
-    either at-most (wrongOption t) (omega arith)
-    (either at-most (wrongPensionAge t) (omega arith)
-    (either at-most (wrongTerm t) (omega arith)
-    (either at-most (wrongPayer t) (omega arith)
-    (either at-most (noLowerRate t) (omega arith)
-    (either at-most (noUpperRate t) (omega arith)
-    (either at-most (wrongAmount t) (omega arith) (either at-most (aboveCap t existing) (omega arith) (omega arith))))))))
-  where
-    at-most : ℕ → Type 0
-    at-most n = n ≤ 8
 
 -- the dearest election: twenty-six times £250 at the greatest rate
 pub contribution-most : (t : Terms) (existing : ℕ) → Accepted t existing → contributionOf t ≤ 11856000
@@ -116,3 +86,13 @@ contribution-most t existing a =
   where
     own : (p : ℕ) → contributionIn t p ≤ 11856000
     own p = mul-le-mul {n₂ = 26} {m₂ = 456000} (omega (arith, a .under-cap)) (table-rate-most t p)
+
+-- the cheapest: a rate that is printed is a penny or more
+pub contribution-least : (t : Terms) (existing : ℕ) → Accepted t existing → 1 ≤ contributionOf t
+unfolding contributionOf contributionIn contributionAt
+contribution-least t existing a =
+    combine-least (t .months) _ _ 1 (omega (arith, a .pension-age .months-high)) (own (t .years) (a .lower-rate))
+    (λ odd. own (t .years + 1) (a .upper-rate (λ z. omega arith)))
+  where
+    own : (p : ℕ) → 0 < tableRate t p → 1 ≤ contributionIn t p
+    own p shown = mul-pos (omega (arith, a .amount-low)) shown

@@ -15,50 +15,46 @@ use Rattle.terms.specs.declared.Terms.{Terms}
 use Rattle.terms.specs.Rate.{tableRate, noRates, ratesAt, upperRatesAt, foundIn}
 
 -- the row of a pension age has the table's rate
-pub found : (t : Terms) (p : ℕ) → foundIn t (ratesAt t p) ≡ tableRate t p
+pub found : (t : Terms) (p : ℕ) → foundIn t p (ratesAt t p) ≡ tableRate t p
 unfolding foundIn tableRate ratesAt
 found t p = go (eqb (t .term) 0)
   where
-    go : (b : Bool) → pick b (lumpRateOf (t .option) (t .age)) (rateIn (pick b noRates (rowOf (t .option) p (t .age))) (t .term))
-        ≡ pick b (lumpRateOf (t .option) (t .age)) (rateOf (t .option) p (t .age) (t .term))
+    go : (b : Bool) → pick b (lumpRateOf (t .option) p (t .age)) (rateIn (pick b noRates (rowOf (t .option) p (t .age))) (t .term))
+        ≡ pick b (lumpRateOf (t .option) p (t .age)) (rateOf (t .option) p (t .age) (t .term))
     go true = refl
     go false = rate-in-row (t .option) p (t .age) (t .term)
 
 -- so has a rate that is looked up in a row that is this
-pub lower-found : (t : Terms) (p : ℕ) {rate : ℕ} {row : List ℕ} → row ≡ ratesAt t p → rate ≡ foundIn t row → rate ≡ tableRate t p
-lower-found t p e f = f ∙ ap (foundIn t) e ∙ found t p
+pub lower-found : (t : Terms) (p : ℕ) {rate : ℕ} {row : List ℕ} → row ≡ ratesAt t p → rate ≡ foundIn t p row → rate ≡ tableRate t p
+lower-found t p e f = f ∙ ap (foundIn t p) e ∙ found t p
 
 -- with odd months the upper row has the upper table's
-pub found-upper : (t : Terms) (p : ℕ) → (t .months ≡ 0 → ⊥) → foundIn t (upperRatesAt t p) ≡ tableRate t p
+pub found-upper : (t : Terms) (p : ℕ) → (t .months ≡ 0 → ⊥) → foundIn t p (upperRatesAt t p) ≡ tableRate t p
 unfolding upperRatesAt
 found-upper t p h = rw (ne-eqb (t .months) 0 h) (found t p)
 
-pub upper-found : (t : Terms) (p : ℕ) {rate : ℕ} {row : List ℕ} → row ≡ upperRatesAt t p → rate ≡ foundIn t row → (t .months ≡ 0 → ⊥)
+pub upper-found : (t : Terms) (p : ℕ) {rate : ℕ} {row : List ℕ} → row ≡ upperRatesAt t p → rate ≡ foundIn t p row → (t .months ≡ 0 → ⊥)
     → rate ≡ tableRate t p
-upper-found t p e f odd = f ∙ ap (foundIn t) e ∙ found-upper t p odd
+upper-found t p e f odd = f ∙ ap (foundIn t p) e ∙ found-upper t p odd
 
 -- no rate is above the greatest lump sum for £250
 pub table-rate-most : (t : Terms) (p : ℕ) → tableRate t p ≤ 456000
 unfolding tableRate
 table-rate-most t p =
-    either (λ x. x ≤ 456000) (eqb (t .term) 0) (lump-most (t .option) (t .age)) (omega (arith, rate-most (t .option) p (t .age) (t .term)))
+    either (λ x. x ≤ 456000) (eqb (t .term) 0) (lump-most (t .option) p (t .age)) (omega (arith, rate-most (t .option) p (t .age) (t .term)))
 
-none-most : (t : Terms) → foundIn t noRates ≤ 456000
+none-most : (t : Terms) (p : ℕ) → foundIn t p noRates ≤ 456000
 unfolding foundIn
-none-most t =
-    either (λ x. x ≤ 456000) (eqb (t .term) 0) (lump-most (t .option) (t .age)) (omega (arith, rate-in-none (t .term)))
+none-most t p =
+    either (λ x. x ≤ 456000) (eqb (t .term) 0) (lump-most (t .option) p (t .age)) (omega (arith, rate-in-none (t .term)))
 
-pub found-upper-most : (t : Terms) (p : ℕ) → foundIn t (upperRatesAt t p) ≤ 456000
+pub found-upper-most : (t : Terms) (p : ℕ) → foundIn t p (upperRatesAt t p) ≤ 456000
 unfolding upperRatesAt
 found-upper-most t p =
-    either (λ row. foundIn t row ≤ 456000) (eqb (t .months) 0) (none-most t) (omega (arith, found t p, table-rate-most t p))
+    either (λ row. foundIn t p row ≤ 456000) (eqb (t .months) 0) (none-most t p) (omega (arith, found t p, table-rate-most t p))
 
 -- of a monthly contract the rates are those of the monthly tables
 module _ (t : Terms) (p : ℕ) (monthly : 0 < t .term) where
-  pub monthly-rate : tableRate t p ≡ rateOf (t .option) p (t .age) (t .term)
-  unfolding tableRate
-  monthly-rate = rw (ne-eqb (t .term) 0 (λ z. omega arith))
-
   pub monthly-rates : ratesAt t p ≡ rowOf (t .option) p (t .age)
   unfolding ratesAt
   monthly-rates = rw (ne-eqb (t .term) 0 (λ z. omega arith))

@@ -5,11 +5,9 @@ use Prim.Native.Nat.{ℕ, _+_, _*_, _/_, _≤_, _<_}
 use Rattle.money.specs.Limits.{stepPounds, capPence}
 use Rattle.terms.specs.declared.Terms.{Terms}
 use Rattle.terms.specs.Rate.{tableRate}
-use Rattle.terms.specs.Told.{TermsPass}
 
--- the rates of the needed tables, of terms that pass so far
+-- the rates of the needed tables
 pub record Found (t : Terms) (lower upper : ℕ) : Type 0 where
-  pub pass : TermsPass t
   pub lower-is : lower ≡ tableRate t (t .years)
   pub upper-is : (t .months ≡ 0 → ⊥) → upper ≡ tableRate t (t .years + 1)
 

@@ -1,13 +1,11 @@
 // What an election costs, or the first rule that refuses its terms.
 ghost use mathlib.Core.Path.{_≡_};
-ghost use mathlib.Core.Bool.{not, _&&_};
 ghost use Prim.Native.Nat.{_≤_, _<_, _^_};
-ghost use lib.Dec.{eqb};
 ghost use Rattle.rounding.specs.Nearest.{combine};
 ghost use Rattle.money.specs.Money.{contribution};
 ghost use Rattle.money.specs.Limits.{capPounds};
 ghost use Rattle.terms.specs.Rate.{ratesAt, upperRatesAt, foundIn};
-ghost use Rattle.terms.specs.Rules.{wrongAmount, aboveCap, refusalOf};
+ghost use Rattle.terms.specs.Rules.{missingUpper, wrongAmount, aboveCap, priceRefusal};
 ghost use Rattle.election.specs.Price.{contributionAt, refused, pricedOf};
 ghost use Rattle.election.specs.Told.{Found};
 use money::ContributionPence;
@@ -31,9 +29,9 @@ fn wrong_amount(t: Terms) -> bool
     t.amount % money::STEP != 0
 }
 
-// Whether the upper table is needed and has no rate.
-fn no_upper_rate(t: Terms, upper: u32) -> bool
-    ensures { λ r. ⌜ r ≡ (not (eqb (t .months) 0) && eqb upper 0) ⌝ }
+// Whether the upper pension age is needed and has no rate.
+fn missing_upper(t: Terms, upper: u32) -> bool
+    ensures { λ r. ⌜ r ≡ missingUpper t upper ⌝ }
 {
     if t.months == 0 {
         return false;
@@ -53,15 +51,19 @@ fn above_cap(t: Terms, existing: PensionPence) -> bool
     PensionPence::of_pounds(t.amount).is_above(cap.less(existing))
 }
 
-// The rules on rates, amount and cap, 5 to 8, where no earlier one refuses: the first that refuses, else 0.
+// The rules on rates, amount and cap, 5 to 8: the first that refuses, else 0. A lump sum without a rate at the upper pension age is 5,
+// a monthly contract 6.
 fn price_refusal(t: Terms, lower: u32, upper: u32, existing: PensionPence) -> u32
     requires { ⌜ Found t lower upper ⌝ }
-    ensures { λ r. ⌜ r ≡ refusalOf t (existing .0) ⌝ }
+    ensures { λ r. ⌜ r ≡ priceRefusal t (existing .0) ⌝ }
 {
     if lower == 0 {
         return 5;
     }
-    if no_upper_rate(t, upper) {
+    if missing_upper(t, upper) {
+        if t.term == 0 {
+            return 5;
+        }
         return 6;
     }
     if wrong_amount(t) {
@@ -98,12 +100,12 @@ fn upper_rates_at(t: Terms, pension_age: u32) -> [u32; 20]
     rates_at(t, pension_age)
 }
 
-// The rate of the term, of the monthly rates; a lump sum has its own table.
-fn found_in(t: Terms, row: [u32; 20]) -> u32
-    ensures { λ r. ⌜ r ≡ foundIn t row ⌝ }
+// The rate of the term at a whole pension age, of its monthly rates; a lump sum has its own table.
+fn found_in(t: Terms, pension_age: u32, row: [u32; 20]) -> u32
+    ensures { λ r. ⌜ r ≡ foundIn t «pension_age» row ⌝ }
 {
     if t.term == 0 {
-        return rates::lump_sum_rate(t.option, t.age);
+        return rates::lump_sum_rate(t.option, pension_age, t.age);
     }
     rates::rate_in(row, t.term)
 }
@@ -137,10 +139,11 @@ pub fn price(t: Terms, existing: PensionPence) -> Priced
     if early != 0 {
         return refuse(early);
     }
+    let next = t.years + 1;
     let lower = rates_at(t, t.years);
-    let upper = upper_rates_at(t, t.years + 1);
-    let lower_rate = found_in(t, lower);
-    let upper_rate = found_in(t, upper);
+    let upper = upper_rates_at(t, next);
+    let lower_rate = found_in(t, t.years, lower);
+    let upper_rate = found_in(t, next, upper);
     let late = price_refusal(t, lower_rate, upper_rate, existing);
     if late != 0 {
         return refuse(late);

@@ -4,7 +4,7 @@ use mathlib.Core.List.{List}
 use mathlib.Core.Path.{_≡_}
 use Prim.Native.Nat.{ℕ, _+_, _<_}
 use lib.Dec.{eqb}
-use Rattle.common.specs.Choice.{pick}
+use Rattle.common.specs.Choice.{pick, firstOf}
 use Rattle.money.specs.Money.{contribution}
 use Rattle.rates.specs.Rates.{rowOf}
 use Rattle.terms.specs.declared.Terms.{Terms}
@@ -19,7 +19,7 @@ use Rattle.examination.specs.declared.Examined.{Examined}
 
 -- the refusal of the terms, with no pension held yet; where they pass, that of the marks
 unfoldable pub settleRefusal : Terms → List ℕ → ℕ
-settleRefusal t marks = pick (eqb (refusalOf t 0) 0) (marksOf (t .term) marks .refusal) (refusalOf t 0)
+settleRefusal t marks = firstOf (refusalOf t 0) (marksOf (t .term) marks .refusal)
 
 -- the index of a bad mark, 0 for any other refusal
 unfoldable pub settlePlace : Terms → List ℕ → ℕ

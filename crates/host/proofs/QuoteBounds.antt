@@ -9,7 +9,8 @@ use Rattle.common.proofs.Tests.{by-test}
 use Rattle.common.proofs.Choice.{either, not-first}
 use Rattle.terms.specs.declared.Terms.{Terms}
 use Rattle.terms.specs.Rules.{refusalOf}
-use Rattle.election.proofs.Laws.{accepted-facts, refusal-most, contribution-most}
+use Rattle.terms.proofs.Laws.{refusal-most}
+use Rattle.election.proofs.Laws.{accepted-facts, contribution-most}
 use Rattle.quotes.specs.Quote.{QuoteNumbers, quoteRefusal, quoteOf}
 
 -- no number of a quote is larger

@@ -1,8 +1,10 @@
-// Pension a year and contribution, both in pence. Each has its own arithmetic, and nothing adds one to the other.
+// Pension a year and contribution, both in pence. Each has its own arithmetic, and nothing adds one to the other; what a contribution
+// buys is the one way between them.
 ghost use mathlib.Core.Path.{_≡_};
 ghost use Prim.Native.Nat.{_+_, _*_, _-_, _/_, _<_, _^_};
 ghost use lib.Dec.{ltb};
-ghost use Rattle.rounding.specs.Nearest.{blend, combine};
+ghost use Rattle.rounding.specs.Nearest.{nearest, blend, combine};
+ghost use Rattle.money.specs.Limits.{unit};
 ghost use Rattle.money.specs.Money.{pension, contribution};
 
 // Pounds of pension a year that a rate is for, and the same in pence.
@@ -45,7 +47,7 @@ impl PensionPence {
         ensures { λ r. ⌜ r ≡ pension (self .0 - other .0) ⌝ }
     {
         if self.0 < other.0 {
-            return PensionPence(0);
+            return PensionPence::none();
         }
         PensionPence(self.0 - other.0)
     }
@@ -106,6 +108,14 @@ impl ContributionPence {
         ensures { λ r. ⌜ r ≡ contribution (self .0 * n) ⌝ }
     {
         ContributionPence(self.0 * n as u64)
+    }
+
+    // The pension a year that it buys at a rate in pence for each unit.
+    pub fn buys(self, rate: u32) -> PensionPence
+        requires { ⌜ self .0 * unit < 2 ^ 64 ⌝ }
+        ensures { λ r. ⌜ r ≡ pension (nearest (self .0 * unit) rate) ⌝ }
+    {
+        PensionPence(rounding::nearest(self.0 * UNIT, rate as u64))
     }
 
     // m twelfths of the way to another.

@@ -1,4 +1,4 @@
-// A settlement as document 01's six numbers, for the host calls, the listing and the records.
+// A settlement as document 01's six numbers, for the host calls and the listing.
 ghost use mathlib.Core.Path.{_≡_};
 ghost use Rattle.settlement.specs.Settle.{numbersOf};
 ghost use Rattle.numbers.specs.Numbers.{numbersIn};

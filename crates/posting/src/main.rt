@@ -19,7 +19,7 @@ fn terms(term: u32, amount: u32) -> Terms {
     }
 }
 
-// A record with its count and one mark set from outside, whatever they are. A fresh one has nothing set.
+// A record with its count and one mark set from outside, whatever they are.
 fn forged(terms: Terms, at: usize, mark: u8, count: usize) -> Contract {
     let mut marks = [0u8; 240];
     if at < 240 {
@@ -168,8 +168,8 @@ fn totals(lump: Contract, paid: Contract, bad: Contract) {
 }
 
 fn main() {
-    let monthly = forged(terms(5, 1000), 0, 0, 0);
-    let lump = forged(terms(0, 250), 0, 0, 0);
+    let monthly = records::fresh_record(terms(5, 1000));
+    let lump = records::fresh_record(terms(0, 250));
     from_the_start(monthly, lump);
     after_the_end(monthly);
     outside_records();

@@ -1,8 +1,9 @@
 -- Document 01, "What each operation gives", Quote.
 -- Assumes nothing.
+use mathlib.Core.Bool.{Bool, true, false}
 use Prim.Native.Nat.{ℕ, _+_}
 use lib.Dec.{leb, eqb}
-use Rattle.common.specs.Choice.{pick}
+use Rattle.common.specs.Choice.{pick, firstOf}
 use Rattle.terms.specs.declared.Terms.{Terms}
 use Rattle.terms.specs.Rules.{refusalOf}
 use Rattle.election.specs.Price.{contributionOf}
@@ -20,8 +21,7 @@ pub record QuoteNumbers : Type 0 where
 
 -- 1 to 8 as the terms are refused; then 9: last number 999,999 or more
 unfoldable pub quoteRefusal : Terms → ℕ → ℕ → ℕ
-quoteRefusal t existing last =
-    pick (eqb (refusalOf t existing) 0) (pick (leb 999999 last) 9 0) (refusalOf t existing)
+quoteRefusal t existing last = firstOf (refusalOf t existing) (pick (leb 999999 last) 9 0)
 
 -- A refusal gives its number, zeros and the register unchanged; success the contribution and the last number plus 1,
 -- which the register then holds.
@@ -38,3 +38,8 @@ answerNumbers (Made c n) register = record { refusal = 0; contribution = c .0; n
 
 abbrev pub numbersOf : Quoted → QuoteNumbers
 numbersOf q = answerNumbers (q .answer) (q .register .last)
+
+-- whether an answer is a refusal
+abbrev pub isRefused : QuoteAnswer → Bool
+isRefused (Refused n) = true
+isRefused (Made c n) = false

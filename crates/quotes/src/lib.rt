@@ -1,6 +1,7 @@
 // Quotes with their numbers, and how much more pension the cap lets a member buy.
 ghost use mathlib.Core.Path.{_≡_};
-ghost use Rattle.quotes.specs.Quote.{quoteOf, numbersOf};
+ghost use lib.Dec.{ltb};
+ghost use Rattle.quotes.specs.Quote.{quoteOf, numbersOf, isRefused};
 ghost use Rattle.quotes.specs.Cap.{capDecisionOf, GreatestUnderCap};
 use money::ContributionPence;
 use money::PensionPence;
@@ -39,7 +40,8 @@ fn refuse(n: u32, register: Register) -> Quoted
 
 // The contribution and the next number; or the first of the refusals 1 to 9, and the register as it was.
 pub fn quote(t: Terms, existing: PensionPence, register: Register) -> Quoted
-    ensures { λ r. ⌜ numbersOf r ≡ quoteOf t (existing .0) (register .last) ⌝ }
+    ensures is { λ r. ⌜ numbersOf r ≡ quoteOf t (existing .0) (register .last) ⌝ }
+    ensures refused { λ r. ⌜ isRefused (r .answer) ≡ ltb 0 (quoteOf t (existing .0) (register .last) .refusal) ⌝ }
 {
     let priced = election::price(t, existing);
     if priced.refusal != 0 {

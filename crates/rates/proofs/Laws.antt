@@ -1,7 +1,7 @@
 -- The laws of the rates, for callers: the print rules both ways, the greatest rates, and how the monthly rates go with term and age.
 -- Assumes nothing.
 use mathlib.Core.List.{List}
-use mathlib.Core.Path.{_≡_, refl, ap, _∙_}
+use mathlib.Core.Path.{_≡_, refl, sym, ap, _∙_}
 use mathlib.Core.Bool.{Bool, true, false}
 use Prim.Native.Nat.{ℕ, zero, suc, _+_, _-_, _%_, _≤_, _<_, zero-le}
 use native.Mathlib.Nat.{le-refl, le-trans}
@@ -92,18 +92,39 @@ rate-in-none term = by (ltb term 1) (ltb 20 term) refl
     by false false f = getD-replicate 20 (term - 1) 0 0 (omega (arith, ltb-false 20 term f))
 
 -- the print rule of Table S, both ways
-pub lump-printed : (o age : ℕ) → 0 < lumpRateOf o age → LumpPrinted o age
+pub lump-printed : (o p age : ℕ) → 0 < lumpRateOf o p age → LumpPrinted o p age
 lump-printed = lump.printed
 
-pub lump-shown : (o age : ℕ) → LumpPrinted o age → 0 < lumpRateOf o age
-lump-shown o age r = lump.rules o age r .shown
+pub lump-shown : (o p age : ℕ) → LumpPrinted o p age → 0 < lumpRateOf o p age
+lump-shown o p age r = omega (arith, lump.rules o p age r .above)
 
 -- the greatest lump sum is £4,560, for option 2 at age 64
-pub lump-most : (o age : ℕ) → lumpRateOf o age ≤ 456000
-lump-most o age = by-positive (λ x. x ≤ 456000) _ zero-le (λ h. lump.rules o age (lump-printed o age h) .most)
+pub lump-most : (o p age : ℕ) → lumpRateOf o p age ≤ 456000
+lump-most o p age = by-positive (λ x. x ≤ 456000) _ zero-le (λ h. lump.rules o p age (lump-printed o p age h) .most)
 
-pub lump-tens : (o age : ℕ) → lumpRateOf o age % 1000 ≡ 0
-lump-tens o age = by-positive (λ x. x % 1000 ≡ 0) _ refl (λ h. lump.rules o age (lump-printed o age h) .tens)
+pub lump-tens : (o p age : ℕ) → lumpRateOf o p age % 1000 ≡ 0
+lump-tens o p age = by-positive (λ x. x % 1000 ≡ 0) _ refl (λ h. lump.rules o p age (lump-printed o p age h) .tens)
+
+-- £250 a year never costs £250 or less
+pub lump-above : (o p age : ℕ) → LumpPrinted o p age → 25000 < lumpRateOf o p age
+lump-above o p age r = lump.rules o p age r .above
+
+-- without dependant's pension it costs less than with it
+pub lump-options : (p age : ℕ) → LumpPrinted 1 p age → lumpRateOf 1 p age < lumpRateOf 2 p age
+lump-options p age r = lump.rules 1 p age r .options
+
+-- down a column it never falls with age, as far as the column is printed
+pub lump-rises : (o p a b : ℕ) → a ≤ b → 0 < lumpRateOf o p b → lumpRateOf o p a ≤ lumpRateOf o p b
+lump-rises o p a b le last =
+    let there = lump-printed o p b last in
+    by-positive (λ x. x ≤ lumpRateOf o p b) _ zero-le λ first.
+    le-ind (λ (n : ℕ). n ≤ b → lumpRateOf o p a ≤ lumpRateOf o p n) (λ h. le-refl _)
+    (λ m h above n. le-trans (above (omega arith)) (lump.rules o p m (omega (arith, lump-printed o p a first)) .rises (omega arith)))
+    b le (le-refl b)
+
+-- every pension age has the same lump sum
+pub lump-same : (o p q age : ℕ) → LumpPrinted o p age → LumpPrinted o q age → lumpRateOf o p age ≡ lumpRateOf o q age
+lump-same o p q age r s = lump.entry o p age r ∙ sym (lump.entry o q age s)
 
 -- the rate for a term of 1 to 20 stands at the place before
 pub rate-in-at : (row : List ℕ) (term : ℕ) → 0 < term → term ≤ 20 → rateIn row term ≡ getD row (term - 1) 0

@@ -1,54 +1,72 @@
--- The rules of Table S: a computed test, and the law that carries it to the lump sum for each option and age.
+-- The rules of Table S: a computed test, and the law that carries it to the lump sum for each option, pension age and age.
 -- Assumes nothing.
 use mathlib.Core.Path.{_≡_}
 use mathlib.Core.List.{List, [], _∷_}
-use Prim.Native.Nat.{ℕ, _+_, _-_, _*_, _%_, _≤_, _<_}
-use native.Mathlib.Nat.{add-zero}
+use Prim.Native.Nat.{ℕ, suc, _-_, _%_, _≤_, _<_}
 use native.Mathlib.Omega.{arith}
-use lib.Dec.{T, ltb}
-use lib.ListN.{length, getD}
-use lib.Seq.{getD-drop}
-use borrow.Author.Tests.{ltb-false, le-ltb}
-use Rattle.rates.specs.LumpSum.{lumpSum}
-use Rattle.rates.specs.Rates.{lumpRateOf, LumpPrinted}
-use Rattle.rates.proofs.Walk.{Rule, always, Hold, every, every-at}
+use lib.Dec.{T, ltb, eqb}
+use lib.ListN.{getD}
+use borrow.Author.Tests.{eqb-true, ltb-false, le-ltb}
+use Rattle.common.proofs.Tests.{by-test}
+use Rattle.rates.specs.Rates.{lumpColumn, lumpRateOf, LumpPrinted}
+use Rattle.rates.proofs.Walk.{Rule, always, given, Hold, passes, hold, all, all-at}
 use Rattle.rates.proofs.Entries.{above-0}
 
-abbrev rules-of : ℕ → List Rule
-rules-of x = always 1 x ∷ always x 456000 ∷ always (x % 1000) 0 ∷ []
+-- above £250, at most £4,560, in tens of pounds, never less a year later, and less without than with dependant's pension
+abbrev rules-of : ℕ → ℕ → ℕ → List Rule
+rules-of o p age =
+    always 25001 (lumpRateOf o p age)
+    ∷ always (lumpRateOf o p age) 456000
+    ∷ always (lumpRateOf o p age % 1000) 0
+    ∷ given (suc age) 64 (lumpRateOf o p age) (lumpRateOf o p (suc age))
+    ∷ always (suc (lumpRateOf 1 p age)) (lumpRateOf 2 p age)
+    ∷ []
 
-abbrev rules-at : ℕ → List ℕ → List Rule
-rules-at k s = rules-of (getD s 0 0)
-
-table-passes : T (every rules-at 0 lumpSum)
+-- options 1 and 2, pension ages 65 to 68, ages 16 to 64
+table-passes : T (all (λ o. all (λ p. all (λ age. passes (rules-of o p age)) 16 49) 65 4) 1 2)
+unfolding lumpRateOf lumpColumn
 table-passes = tt
 
--- over any list, so that nothing computes along the table
-facts : (l : List ℕ) → T (every rules-at 0 l) → (k : ℕ) → k < length l → Hold (rules-of (getD l k 0))
-facts l t k h = simp (getD-drop, add-zero) at (every-at rules-at 0 l t k h)
+facts : (o p age : ℕ) → LumpPrinted o p age → Hold (rules-of o p age)
+facts o p age r =
+    hold (rules-of o p age)
+    (all-at (λ age. passes (rules-of o p age)) 16 49
+    (all-at (λ p. all (λ age. passes (rules-of o p age)) 16 49) 65 4
+    (all-at (λ o. all (λ p. all (λ age. passes (rules-of o p age)) 16 49) 65 4) 1 2 table-passes o (omega arith) (omega arith))
+    p (omega arith) (omega arith)) age (omega arith) (omega arith))
 
-rate-at : (o age : ℕ) → LumpPrinted o age → lumpRateOf o age ≡ getD lumpSum ((age - 16) * 2 + (o - 1)) 0
-unfolding lumpRateOf
-rate-at o age r =
-    rw (le-ltb o 1 (r .option-low), le-ltb 2 o (r .option-high), le-ltb age 16 (r .age-low), le-ltb 64 age (r .age-high))
+-- only the two options have a column
+has-column : (o k : ℕ) → 0 < getD (lumpColumn o) k 0 → (1 ≤ o) × (o ≤ 2)
+unfolding lumpColumn
+has-column o k h =
+    by-test (eqb o 1) (λ e. omega (arith, eqb-true o 1 e))
+    (λ e. by-test (eqb o 2) (λ f. omega (arith, eqb-true o 2 f)) (λ f. absurd (omega (arith, rw (e, f) at h))))
 
-pub printed : (o age : ℕ) → 0 < lumpRateOf o age → LumpPrinted o age
+pub printed : (o p age : ℕ) → 0 < lumpRateOf o p age → LumpPrinted o p age
 unfolding lumpRateOf
-printed o age h =
-    let a = above-0 (ltb o 1) h in
-    let b = above-0 (ltb 2 o) (a .1) in
+printed o p age h =
+    let a = above-0 (ltb p 65) h in
+    let b = above-0 (ltb 68 p) (a .1) in
     let c = above-0 (ltb age 16) (b .1) in
     let d = above-0 (ltb 64 age) (c .1) in
-    omega (arith, ltb-false o 1 (a .0), ltb-false 2 o (b .0), ltb-false age 16 (c .0), ltb-false 64 age (d .0))
+    let option = has-column o (age - 16) (d .1) in
+    omega (arith, ltb-false p 65 (a .0), ltb-false 68 p (b .0), ltb-false age 16 (c .0), ltb-false 64 age (d .0))
 
--- the rules of the lump sum for an option at an age
-pub record Rules (o age : ℕ) : Type 0 where
-  pub shown : 0 < lumpRateOf o age
-  pub most : lumpRateOf o age ≤ 456000
-  pub tens : lumpRateOf o age % 1000 ≡ 0
+-- where there is a lump sum it is the entry of the option's column, whatever the pension age
+pub entry : (o p age : ℕ) → LumpPrinted o p age → lumpRateOf o p age ≡ getD (lumpColumn o) (age - 16) 0
+unfolding lumpRateOf
+entry o p age r =
+    rw (le-ltb p 65 (r .pension-low), le-ltb 68 p (r .pension-high), le-ltb age 16 (r .age-low), le-ltb 64 age (r .age-high))
 
-pub rules : (o age : ℕ) → LumpPrinted o age → Rules o age
-rules o age r =
-    let x = rate-at o age r in
-    let f = facts lumpSum table-passes ((age - 16) * 2 + (o - 1)) (omega arith) in
-    record { shown = omega arith; most = omega arith; tens = omega arith }
+-- the rules of the lump sum for an option at a pension age and an age
+pub record Rules (o p age : ℕ) : Type 0 where
+  pub above : 25000 < lumpRateOf o p age
+  pub most : lumpRateOf o p age ≤ 456000
+  pub tens : lumpRateOf o p age % 1000 ≡ 0
+  pub rises : age < 64 → lumpRateOf o p age ≤ lumpRateOf o p (suc age)
+  pub options : lumpRateOf 1 p age < lumpRateOf 2 p age
+
+pub rules : (o p age : ℕ) → LumpPrinted o p age → Rules o p age
+rules o p age r =
+    let f = facts o p age r in
+    record { above = f .0; most = f .1 .0; tens = omega arith; rises = f .1 .1 .1 .0; options = f .1 .1 .1 .1 .0 }

@@ -22,12 +22,12 @@ Hold [] = Unit {0}
 Hold (always c d ∷ rs) = (c ≤ d) × Hold rs
 Hold (given a b c d ∷ rs) = (a ≤ b → c ≤ d) × Hold rs
 
--- the rules as a test
+-- the rules as a test, and the law that a test that passes is a fact
 abbrev implies : Bool → Bool → Bool
 implies true b = b
 implies false b = true
 
-abbrev passes : List Rule → Bool
+abbrev pub passes : List Rule → Bool
 passes [] = true
 passes (always c d ∷ rs) = leb c d && passes rs
 passes (given a b c d ∷ rs) = implies (leb a b) (leb c d) && passes rs
@@ -36,7 +36,7 @@ implied : (a b : Bool) → T (implies a b) → T a → T b
 implied true b t p = t
 implied false b t p = absurd p
 
-hold : (rs : List Rule) → T (passes rs) → Hold rs
+pub hold : (rs : List Rule) → T (passes rs) → Hold rs
 hold [] t = tt
 hold (always c d ∷ rs) t = (leb→le c d (and-left (leb c d) (passes rs) t), hold rs (and-right (leb c d) (passes rs) t))
 hold (given a b c d ∷ rs) t =

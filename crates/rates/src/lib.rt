@@ -18,14 +18,14 @@ pub fn rate_in(row: [u32; 20], term: u32) -> u32
     row[(term - 1) as usize]
 }
 
-// The lump sum for an option at an age; 0 where none is printed.
-pub fn lump_sum_rate(option: u32, age: u32) -> u32
-    ensures { λ r. ⌜ r ≡ lumpRateOf option age ⌝ }
+// The lump sum for an option at a whole pension age and an age; 0 where none is printed.
+pub fn lump_sum_rate(option: u32, pension_age: u32, age: u32) -> u32
+    ensures { λ r. ⌜ r ≡ lumpRateOf option «pension_age» age ⌝ }
 {
-    if option < 1 {
+    if pension_age < 65 {
         return 0;
     }
-    if 2 < option {
+    if 68 < pension_age {
         return 0;
     }
     if age < 16 {
@@ -34,5 +34,14 @@ pub fn lump_sum_rate(option: u32, age: u32) -> u32
     if 64 < age {
         return 0;
     }
-    lump_sum::LUMP_SUM[((age - 16) * 2 + (option - 1)) as usize]
+    let line = (age - 16) as usize;
+    let personal = lump_sum::PERSONAL[line];
+    let dependant = lump_sum::DEPENDANT[line];
+    if option == 1 {
+        return personal;
+    }
+    if option == 2 {
+        return dependant;
+    }
+    0
 }

@@ -1,28 +1,24 @@
 -- A record is bad by any of three faults, and not bad where it has none.
 -- Assumes nothing.
-use mathlib.Core.Bool.{Bool, true, false, not, _||_}
-use mathlib.Core.Path.{_≡_, refl, sym, ap, _∙_}
+use mathlib.Core.Bool.{Bool, true, false, not}
+use mathlib.Core.Path.{_≡_, sym, ap, _∙_}
 use Prim.Native.Nat.{_<_, _≤_}
 use borrow.Author.Tests.{lt-ltb, le-ltb, eq-eqb, ne-eqb, ltb-false, eqb-true, eqb-false, not-false}
 use lib.Dec.{ltb, eqb}
-use Rattle.common.proofs.Tests.{or-false, by-test}
+use Rattle.common.proofs.Tests.{or-true, or-false, by-test}
 use Rattle.money.specs.Money.{pension}
 use Rattle.settlement.specs.Settle.{SettleNumbers}
 use Rattle.settlement.proofs.Laws.{settle-refused, settle-refusal}
 use Rattle.records.specs.declared.Contract.{Contract}
 use Rattle.records.specs.declared.RecordCheck.{RecordCheck}
-use Rattle.records.specs.Record.{usedMarks, unusedMarks, settledRecord, allZero, badRecord, checkOf}
-
-or-true : (a : Bool) → (a || true) ≡ true
-or-true true = refl
-or-true false = refl
+use Rattle.records.specs.Record.{usedMarks, unusedMarks, settledRecord, allZero, badRecord, badCheck, checkOf}
 
 -- what the check answers where Settle gives these numbers
 abbrev answerOf : SettleNumbers → RecordCheck
 answerOf n = record { bad = not (eqb (n .refusal) 0); credit = pension (n .credit) }
 
 module _ (c : Contract) where
-  refused-bad : (settledRecord c .refusal ≡ 0 → ⊥) → badRecord c ≡ true
+  pub refused-bad : (settledRecord c .refusal ≡ 0 → ⊥) → badRecord c ≡ true
   unfolding badRecord
   refused-bad h = rw (ne-eqb (settledRecord c .refusal) 0 h)
 
@@ -57,7 +53,7 @@ module _ (c : Contract) where
 
   -- what the check answers
 
-  pub bad-check : badRecord c ≡ true → _≡_ {A = RecordCheck} (record { bad = true; credit = pension 0 }) (checkOf c)
+  pub bad-check : badRecord c ≡ true → badCheck ≡ checkOf c
   unfolding checkOf
   bad-check e = rw e
 

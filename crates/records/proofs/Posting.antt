@@ -17,6 +17,7 @@ use Rattle.marks.proofs.Term.{too-many, marks-last}
 use Rattle.settlement.specs.Settle.{settleOf}
 use Rattle.examination.proofs.Laws.{terms-pass, refused-by-marks, few}
 use Rattle.settlement.proofs.Laws.{settle-refusal}
+use Rattle.settlement.proofs.Bounds.{settle-bounds}
 use Rattle.records.specs.declared.Contract.{Contract}
 use Rattle.records.specs.declared.Posted.{Posted}
 use Rattle.records.specs.Record.{usedMarks, badRecord}
@@ -42,6 +43,17 @@ module _ (c : Contract) (m : ℕ) where
   pub good-refused : badRecord c ≡ false → postRefusal c m ≡ settleOf (c .terms) more .refusal
   unfolding postRefusal
   good-refused b = rw b
+
+  -- a posting gives 13 just where the record is bad
+  pub thirteen-bad : postOf c m .refusal ≡ 13 → badRecord c ≡ true
+  unfolding postOf
+  thirteen-bad e =
+      by-test (badRecord c) (λ b. b)
+      (λ b. absurd (omega (arith, good-refused b, settle-bounds (c .terms) more .refusal-most)))
+
+  pub bad-thirteen : badRecord c ≡ true → postOf c m .refusal ≡ 13
+  unfolding postOf
+  bad-thirteen = bad-refused
 
   by-marks : badRecord c ≡ false → postRefusal c m ≡ marksOf (c .terms .term) more .refusal
   by-marks b = good-refused b ∙ refused-with (c .terms) (usedMarks c) more (not-bad c b .settled)

@@ -33,6 +33,10 @@ unfoldable pub badRecord : Contract → Bool
 badRecord c =
     not (eqb (settledRecord c .refusal) 0) || (ltb 240 (c .count) || not (allZero (unusedMarks c)))
 
+-- what the check answers of a bad record
+abbrev pub badCheck : RecordCheck
+badCheck = record { bad = true; credit = pension 0 }
+
 -- what the check of a record answers: whether it is bad, and the credit that Settle gives where it is not
 unfoldable pub checkOf : Contract → RecordCheck
 checkOf c = record { bad = badRecord c; credit = pension (pick (badRecord c) 0 (settledRecord c .credit)) }

@@ -1,9 +1,11 @@
 // The contract record, and posting a month in its own memory.
 ghost use mathlib.Core.Path.{_≡_};
 ghost use lib.ListN.{drop};
-ghost use Rattle.records.specs.Record.{allZero, checkOf};
+ghost use Rattle.records.specs.Record.{allZero, badCheck, checkOf};
+ghost use Rattle.records.specs.History.{freshRecord};
 ghost use Rattle.records.specs.Post.{postRefusal, placeOf, postOf, postedRecord, Decided};
 use money::PensionPence;
+use settlement::Settlement;
 use terms::Terms;
 
 // The marks before the count are in use; the others are 0.
@@ -11,6 +13,17 @@ pub struct Contract {
     pub terms: Terms,
     pub marks: [u8; 240],
     pub count: usize,
+}
+
+// A record of terms, before any mark is posted.
+pub fn fresh_record(terms: Terms) -> Contract
+    ensures { λ r. ⌜ r ≡ freshRecord terms ⌝ }
+{
+    Contract {
+        terms,
+        marks: [0u8; 240],
+        count: 0,
+    }
 }
 
 // Whether a record is bad, and its credit where it is not.
@@ -47,6 +60,16 @@ fn all_zero(marks: &[u8], from: usize) -> bool
     true
 }
 
+// A bad record has no credit.
+fn found_bad() -> RecordCheck
+    ensures { λ r. ⌜ r ≡ badCheck ⌝ }
+{
+    RecordCheck {
+        bad: true,
+        credit: PensionPence::none(),
+    }
+}
+
 // The check of a record that posting and the total both make.
 pub fn check_record(c: Contract) -> RecordCheck
     ensures { λ r. ⌜ r ≡ checkOf c ⌝ }
@@ -54,21 +77,17 @@ pub fn check_record(c: Contract) -> RecordCheck
     let count = c.count;
     let marks = c.marks;
     if count > 240 {
-        return RecordCheck {
-            bad: true,
-            credit: PensionPence(0),
-        };
+        return found_bad();
     }
     if !all_zero(&marks, count) {
-        return RecordCheck {
-            bad: true,
-            credit: PensionPence(0),
-        };
+        return found_bad();
     }
-    let n = numbers::numbers_of(settlement::settle(c.terms, &marks[..count]));
-    RecordCheck {
-        bad: n.refusal != 0,
-        credit: PensionPence(n.credit),
+    match settlement::settle(c.terms, &marks[..count]) {
+        Settlement::Refused { .. } => found_bad(),
+        Settlement::Settled { credit, .. } => RecordCheck {
+            bad: false,
+            credit,
+        },
     }
 }
 

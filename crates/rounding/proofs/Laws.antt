@@ -1,4 +1,4 @@
--- What follows for any rounding from its being within a half, and the same of `nearest`.
+-- What follows for any rounding from its being within a half, and the same of the rule in force.
 -- Assumes nothing.
 use mathlib.Core.Path.{_≡_, ap, _∙_}
 use Prim.Native.Nat.{ℕ, _+_, _*_, _-_, _≤_, _<_}
@@ -9,7 +9,7 @@ use borrow.Author.Tests.{eq-eqb, ne-eqb, eqb-false}
 use Rattle.common.proofs.Tests.{by-test}
 use Rattle.rounding.specs.Nearest.{nearest, blendBy, blend, combineBy, combine}
 use Rattle.rounding.specs.Rounding.{WithinHalf}
-use Rattle.rounding.proofs.HalfUp.{nearest-within-half}
+use Rattle.rounding.proofs.InForce.{nearest-within-half}
 
 -- twelfths m and 12 − m of figures that are at most u, or at least l
 weighted-most : (m lo hi u : ℕ) → m ≤ 12 → lo ≤ u → hi ≤ u → (12 - m) * lo + m * hi ≤ u * 12
@@ -61,7 +61,7 @@ module _ (round : ℕ → ℕ → ℕ) (half : WithinHalf round) where
   combined-least m lo hi l h p q =
       by-test (eqb m 0) (λ e. rw e p) (λ e. rw e (blended-least m lo hi l h p (q (omega (arith, eqb-false m 0 e)))))
 
--- the upper bounds of a blend and of combined figures, to the nearest
+-- bounds of a blend and of combined figures, by the rule in force
 pub blend-most : (m lo hi u : ℕ) → m ≤ 12 → lo ≤ u → hi ≤ u → blend m lo hi ≤ u
 unfolding blend
 blend-most = blended-most nearest nearest-within-half
@@ -69,6 +69,10 @@ blend-most = blended-most nearest nearest-within-half
 pub combine-most : (m lo hi u : ℕ) → m ≤ 12 → lo ≤ u → hi ≤ u → combine m lo hi ≤ u
 unfolding combine
 combine-most m lo hi u h p q = combined-most nearest nearest-within-half m lo hi u h p (λ odd. q)
+
+pub combine-least : (m lo hi l : ℕ) → m ≤ 12 → l ≤ lo → (0 < m → l ≤ hi) → l ≤ combine m lo hi
+unfolding combine
+combine-least = combined-least nearest nearest-within-half
 
 -- at a whole pension age the upper figure does not matter
 pub combine-upper : (m lo a b : ℕ) → ((m ≡ 0 → ⊥) → a ≡ b) → combine m lo a ≡ combine m lo b

@@ -1,18 +1,22 @@
--- Document 01, "From rate to contribution and credit": to the nearest, a half going up; two figures blended by twelfths.
+-- Document 01, "From rate to contribution and credit": rounding to the nearest, and two figures blended by twelfths.
 -- Assumes nothing.
 use Prim.Native.Nat.{ℕ, _+_, _*_, _-_, _/_}
 use lib.Dec.{eqb}
 use Rattle.common.specs.Choice.{pick}
 
 -- n ÷ d to the nearest whole number, a half going up: the whole part of n ÷ d + 1/2
+unfoldable pub halfUp : ℕ → ℕ → ℕ
+halfUp n d = (2 * n + d) / (2 * d)
+
+-- the rule that contributions, whole-year credits, month values and the combining of two tables go by
 unfoldable pub nearest : ℕ → ℕ → ℕ
-nearest n d = (2 * n + d) / (2 * d)
+nearest = halfUp
 
 -- ((12 − m) × lo + m × hi) ÷ 12, by a rounding
 abbrev pub blendBy : (ℕ → ℕ → ℕ) → ℕ → ℕ → ℕ → ℕ
 blendBy round m lo hi = round ((12 - m) * lo + m * hi) 12
 
--- the same to the nearest
+-- the same by the rule in force
 unfoldable pub blend : ℕ → ℕ → ℕ → ℕ
 blend = blendBy nearest
 
@@ -20,6 +24,6 @@ blend = blendBy nearest
 abbrev pub combineBy : (ℕ → ℕ → ℕ) → ℕ → ℕ → ℕ → ℕ
 combineBy round m lo hi = pick (eqb m 0) lo (blendBy round m lo hi)
 
--- the same to the nearest
+-- the same by the rule in force
 unfoldable pub combine : ℕ → ℕ → ℕ → ℕ
 combine = combineBy nearest

@@ -1,11 +1,11 @@
 // Rounding to the nearest whole number, and the blend of two figures by twelfths.
-// Callers go by the laws of proofs/HalfUp and proofs/Laws, so that another rounding can stand behind the name `nearest`.
+// Callers go by the laws of proofs/InForce and proofs/Laws, so that another rounding can stand behind the name `nearest`.
 ghost use mathlib.Core.Path.{_≡_};
-ghost use Rattle.rounding.specs.Nearest.{nearest, blend};
+ghost use Rattle.rounding.specs.Nearest.{halfUp, nearest, blend};
 
 // n ÷ d to the nearest whole number, a half going up; 0 where d is 0.
-pub fn nearest(n: u64, d: u64) -> u64
-    ensures { λ r. ⌜ r ≡ nearest n d ⌝ }
+pub fn half_up(n: u64, d: u64) -> u64
+    ensures { λ r. ⌜ r ≡ halfUp n d ⌝ }
 {
     if d == 0 {
         return 0;
@@ -16,6 +16,13 @@ pub fn nearest(n: u64, d: u64) -> u64
         return whole;
     }
     whole + 1
+}
+
+// n ÷ d by the rule that contributions, whole-year credits, month values and the combining of two tables go by.
+pub fn nearest(n: u64, d: u64) -> u64
+    ensures { λ r. ⌜ r ≡ nearest n d ⌝ }
+{
+    half_up(n, d)
 }
 
 // ((12 − m) × lo + m × hi) ÷ 12 to the nearest; 12 − m is 0 where m is more than 12.

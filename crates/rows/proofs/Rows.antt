@@ -3,10 +3,10 @@
 use mathlib.Core.List.{map}
 use mathlib.Core.Path.{_≡_, refl}
 use Rattle.common.specs.Table.{tabulate}
-use Rattle.rounding.specs.Nearest.{nearest, blend, combine}
+use Rattle.rounding.specs.Nearest.{halfUp, nearest, blend, combine}
 use Rattle.rates.specs.Rates.{tableOf, cellOf, rateOf}
 use Rattle.terms.specs.Rate.{tableRate}
-use Rattle.terms.specs.Rules.{wrongOption, wrongPensionAge, wrongTerm, wrongPayer, noLowerRate, noUpperRate, wrongAmount, aboveCap, refusalOf}
+use Rattle.terms.specs.Rules.{wrongOption, wrongPensionAge, wrongTerm, wrongPayer, noRate, noUpperRate, wrongAmount, aboveCap, termsRefusal, priceRefusal, refusalOf}
 use Rattle.election.specs.Price.{contributionAt, contributionIn, contributionOf}
 use Rattle.marks.specs.Counts.{lastOr, allPaid, paidMonths, paidThrough, finalGap}
 use Rattle.status.specs.Status.{stoppedOf, statusOf}
@@ -14,11 +14,12 @@ use Rattle.marks.specs.Reading.{nextRefusalOf, countMark, stepBy, readOn, marks
 use Rattle.years.specs.Years.{yearCredit, yearCredits, monthValue}
 use Rattle.credit.specs.Runs.{runsFrom, runFrom, runsIn}
 use Rattle.credit.specs.Credit.{earned, creditOver, creditIn}
-use Rattle.settlement.specs.Credit.{creditOf}
+use Rattle.distance.specs.Exact.{exactYear, exactMonth, exactFrom, exactCredit}
+use Rattle.settlement.specs.Credit.{creditOf, exactCreditOf}
 use Rattle.examination.specs.Examine.{settleRefusal, settlePlace}
 use Rattle.settlement.specs.Settle.{creditAtStatus, refundAtStatus, settleOf}
-use Rattle.rows.specs.Rows.{Row, priceRows, creditRows, statusRows, tellingRows, rows}
+use Rattle.rows.specs.Rows.{Row, priceRows, creditRows, exactRows, statusRows, tellingRows, rows}
 
 pub all-rows : map (λ (r : Row). r .found) rows ≡ map (λ (r : Row). r .stated) rows
-unfolding rows priceRows creditRows statusRows tellingRows settleOf settleRefusal settlePlace creditAtStatus refundAtStatus creditOf creditIn creditOver earned runsIn runsFrom runFrom monthValue yearCredits yearCredit tabulate marksOf readOn stepBy nextRefusalOf countMark statusOf stoppedOf lastOr allPaid paidMonths paidThrough finalGap contributionOf contributionIn contributionAt tableRate rateOf cellOf tableOf combine blend nearest refusalOf wrongOption wrongPensionAge wrongTerm wrongPayer noLowerRate noUpperRate wrongAmount aboveCap
+unfolding rows priceRows creditRows exactRows statusRows tellingRows settleOf settleRefusal settlePlace creditAtStatus refundAtStatus creditOf creditIn creditOver earned runsIn runsFrom runFrom monthValue yearCredits yearCredit tabulate marksOf readOn stepBy nextRefusalOf countMark statusOf stoppedOf lastOr allPaid paidMonths paidThrough finalGap contributionOf contributionIn contributionAt tableRate rateOf cellOf tableOf combine blend nearest halfUp refusalOf termsRefusal priceRefusal wrongOption wrongPensionAge wrongTerm wrongPayer noRate noUpperRate wrongAmount aboveCap exactCreditOf exactCredit exactFrom exactMonth exactYear
 all-rows = refl

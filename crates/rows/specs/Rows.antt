@@ -2,14 +2,15 @@
 -- definitions give and what the paper states.
 -- Assumes nothing.
 use mathlib.Core.List.{List, [], _∷_, _++_}
-use Prim.Native.Nat.{ℕ}
+use Prim.Native.Nat.{ℕ, _*_, _/_}
 use lib.ListN.{take, replicate}
 use Rattle.rounding.specs.Nearest.{nearest, blend}
 use Rattle.terms.specs.declared.Terms.{Terms}
 use Rattle.terms.specs.Rules.{refusalOf}
 use Rattle.election.specs.Price.{contributionOf}
 use Rattle.years.specs.Years.{yearCredits, monthValue}
-use Rattle.settlement.specs.Credit.{purchaseIn}
+use Rattle.distance.specs.Fraction.{Fraction}
+use Rattle.settlement.specs.Credit.{purchaseIn, exactCreditOf}
 use Rattle.settlement.specs.Settle.{settleOf}
 
 pub record Row : Type 0 where
@@ -87,6 +88,20 @@ creditRows =
     ∷ (settled fiveYears (paidFor 18 ++ (missedFor 4 ++ paidFor 6)) is (0 ∷ 0 ∷ 24200 ∷ 1 ∷ 42961 ∷ 0 ∷ []))
     ∷ []
 
+-- a fraction's whole part, and that it is n ÷ d, multiplied out
+abbrev pub wholePart : Fraction → List ℕ
+wholePart x = only (x .num / x .den)
+
+abbrev pub isFraction : Fraction → ℕ → ℕ → Row
+isFraction x n d = only (x .num * d) is only (n * x .den)
+
+-- not in the paper: the exact credit of the 18 paid months, which is half of the sum of £242.00 ÷ £271.80 × £250 and £242.00 ÷ £139.60 × £250
+unfoldable pub exactRows : List Row
+exactRows =
+    (wholePart (exactCreditOf fiveYears (paidFor 18)) is only 32798)
+    ∷ isFraction (exactCreditOf fiveYears (paidFor 18)) 15556062500 474291
+    ∷ []
+
 -- notice after eleven and after twelve paid months, resuming after eleven and after twelve missed ones, and first marks 0 and 2
 unfoldable pub statusRows : List Row
 statusRows =
@@ -108,4 +123,4 @@ tellingRows =
 
 -- all of them
 unfoldable pub rows : List Row
-rows = priceRows ++ (creditRows ++ (statusRows ++ tellingRows))
+rows = priceRows ++ (creditRows ++ (exactRows ++ (statusRows ++ tellingRows)))

@@ -7,7 +7,6 @@ use lib.ListN.{length, take, drop}
 use Rattle.common.specs.Choice.{pick}
 use Rattle.common.specs.Table.{tabulate}
 use Rattle.terms.specs.declared.Terms.{Terms}
-use Rattle.examination.specs.Examine.{settleRefusal, settlePlace}
 use Rattle.settlement.specs.Settle.{settleOf}
 use Rattle.schedule.specs.declared.Scheduled.{Scheduled}
 
@@ -32,7 +31,7 @@ numbersOf r list = record { refusal = r .refusal; place = r .place; list = list 
 -- Settle's refusal with its place, then 14 for a list that is shorter than the marks; neither writes anything
 unfoldable pub scheduleOf : Terms → List ℕ → List ℕ → ScheduleNumbers
 scheduleOf t marks list =
-    pick (eqb (settleRefusal t marks) 0)
+    pick (eqb (settleOf t marks .refusal) 0)
     (pick (ltb (length list) (length marks)) (record { refusal = 14; place = 0; list = list })
     (record { refusal = 0; place = 0; list = filledOf t marks list }))
-    (record { refusal = settleRefusal t marks; place = settlePlace t marks; list = list })
+    (record { refusal = settleOf t marks .refusal; place = settleOf t marks .place; list = list })

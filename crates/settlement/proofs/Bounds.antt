@@ -3,7 +3,7 @@
 use mathlib.Core.Bool.{Bool, true, false}
 use mathlib.Core.List.{List}
 use mathlib.Core.Logic.{⊎-elim}
-use mathlib.Core.Path.{_≡_, refl}
+use mathlib.Core.Path.{_≡_, refl, sym, _∙_}
 use Prim.Native.Nat.{ℕ, _*_, _≤_}
 use native.Mathlib.Decide.{ℕ-discrete, decLe}
 use native.Mathlib.Nat.{mul-le-mul}
@@ -15,7 +15,8 @@ use Rattle.common.specs.Choice.{pick}
 use Rattle.terms.specs.declared.Terms.{Terms}
 use Rattle.terms.specs.Rules.{refusalOf}
 use Rattle.election.specs.Price.{contributionOf}
-use Rattle.election.proofs.Laws.{accepted-facts, refusal-most, contribution-most}
+use Rattle.terms.proofs.Laws.{refusal-most}
+use Rattle.election.proofs.Laws.{accepted-facts, contribution-most, contribution-least}
 use Rattle.marks.specs.Counts.{paidMonths}
 use Rattle.status.specs.Status.{statusOf}
 use Rattle.marks.specs.Reading.{readingOf, marksOf}
@@ -27,7 +28,7 @@ use Rattle.examination.proofs.Laws.{refused-by-terms, place-by-terms, refused-b
 use Rattle.settlement.specs.Credit.{creditOf}
 use Rattle.settlement.specs.Settle.{creditAtStatus, refundAtStatus, settleOf}
 use Rattle.settlement.specs.Bounds.{SettleBounds}
-use Rattle.settlement.proofs.Laws.{settle-refused, settle-settled}
+use Rattle.settlement.proofs.Laws.{settle-refused, settle-settled, settle-refusal}
 use Rattle.settlement.proofs.Demand.{worked-most}
 
 module _ (t : Terms) (ms : List ℕ) where
@@ -64,6 +65,20 @@ module _ (t : Terms) (ms : List ℕ) where
       go true b e = omega arith
       go false true e = omega arith
       go false false e = worked-most t ms none (not-lump (t .term) ms (eqb-false _ _ e))
+
+  -- whatever the terms and marks: what is refused has no credit
+  pub settle-credit-most : settleOf t ms .credit ≤ t .amount * 100
+  settle-credit-most = go (ℕ-discrete (settleRefusal t ms) 0)
+    where
+      go : Dec (settleRefusal t ms ≡ 0) → settleOf t ms .credit ≤ t .amount * 100
+      go (yes none) = rw (settle-settled t ms none) (credit-amount none)
+      go (no some) = rw (settle-refused t ms some) (omega arith)
+
+  -- what is settled has a contribution of a penny or more, so its numbers are never those of a refusal
+  pub settle-contribution-least : settleOf t ms .refusal ≡ 0 → 1 ≤ settleOf t ms .contribution
+  settle-contribution-least z =
+      let none = sym (settle-refusal t ms) ∙ z in
+      rw (settle-settled t ms none) (contribution-least t 0 (accepted t ms none))
 
   refund-bound : settleRefusal t ms ≡ 0 → refundAtStatus t ms (statusOf (t .term) ms) ≤ 130416000
   unfolding refundAtStatus

@@ -1,4 +1,4 @@
--- Demand 3 of every settlement; that the runs never earn more than the amount, and that a term paid in full earns just the amount.
+-- Demand 3 of every settlement; that the runs never earn more than the amount, and that a term paid in full is complete and earns just the amount.
 -- Assumes nothing.
 use mathlib.Core.Bool.{Bool, true, false}
 use mathlib.Core.List.{List, [], _∷_, _++_}
@@ -8,23 +8,27 @@ use Prim.Native.Nat.{ℕ, _*_, _≤_, _<_}
 use native.Mathlib.Omega.{arith}
 use borrow.Author.Tests.{ne-eqb}
 use lib.Dec.{eqb}
-use lib.ListN.{replicate}
+use lib.ListN.{replicate, length-replicate}
 use Rattle.common.specs.Choice.{pick}
 use Rattle.rounding.specs.Nearest.{nearest}
-use Rattle.rounding.proofs.HalfUp.{nearest-within-half, nearest-monotone}
+use Rattle.rounding.proofs.InForce.{nearest-within-half, nearest-monotone}
 use Rattle.terms.specs.declared.Terms.{Terms}
 use Rattle.terms.specs.Rules.{refusalOf}
+use Rattle.election.specs.Price.{contributionOf}
 use Rattle.election.proofs.Laws.{accepted-facts}
-use Rattle.marks.specs.Lawful.{Lawful}
+use Rattle.marks.specs.declared.Reading.{Reading}
+use Rattle.marks.specs.Lawful.{Lawful, LawfulFor}
+use Rattle.marks.proofs.Runs.{all-paid-lawful}
+use Rattle.marks.proofs.Term.{marks-counts}
 use Rattle.status.specs.Status.{statusOf}
-use Rattle.status.proofs.StatusOf.{monthly-status}
+use Rattle.status.proofs.StatusOf.{monthly-status, full-status}
 use Rattle.credit.specs.Runs.{paid, startsAfter, runCount}
 use Rattle.distance.proofs.Distance.{distance}
 use Rattle.distance.proofs.Amount.{contract-most, full-term}
 use Rattle.examination.specs.Examine.{settleRefusal}
-use Rattle.examination.proofs.Laws.{accepted, lawful}
+use Rattle.examination.proofs.Laws.{refused-by-marks, accepted, lawful}
 use Rattle.settlement.specs.Credit.{purchasesOf, creditOf, exactCreditOf}
-use Rattle.settlement.specs.Settle.{creditAtStatus, settleOf}
+use Rattle.settlement.specs.Settle.{creditAtStatus, refundAtStatus, settleOf}
 use Rattle.settlement.specs.Demand.{Demand3}
 use Rattle.settlement.proofs.Laws.{settle-settled, settle-refusal}
 use Rattle.settlement.proofs.Purchases.{sound}
@@ -68,7 +72,8 @@ demand-3 t ms z years k other =
     let first = first-paid ms (law .lawful) k in
     rw (settle-settled t ms none)
     (rw (credit-worked t ms (omega arith) other)
-    (distance nearest nearest-within-half (purchasesOf t) (sound t (accepted t ms none) (omega arith)) ms (law .few) (first .0) (first .1)))
+    (distance nearest nearest-within-half nearest-monotone (purchasesOf t) (sound t (accepted t ms none) (omega arith)) ms (law .few)
+    (first .0) (first .1)))
 
 -- a monthly contract's runs never earn more than the amount
 pub worked-most : (t : Terms) (ms : List ℕ) → settleRefusal t ms ≡ 0 → 0 < t .term → creditOf t ms ≤ t .amount * 100
@@ -82,7 +87,7 @@ worked-most t ms none monthly =
     )
 
 -- twelve paid months in each year of the term earn the amount exactly
-pub full-credit : (t : Terms) → refusalOf t 0 ≡ 0 → 0 < t .term → creditOf t (replicate (12 * t .term) 1) ≡ t .amount * 100
+full-credit : (t : Terms) → refusalOf t 0 ≡ 0 → 0 < t .term → creditOf t (replicate (12 * t .term) 1) ≡ t .amount * 100
 unfolding creditOf
 full-credit t pass monthly =
     let a = accepted-facts t 0 pass in
@@ -91,3 +96,16 @@ full-credit t pass monthly =
       full-term nearest nearest-within-half (purchasesOf t) (sound t a monthly) monthly,
       a .whole,
     )
+
+-- so a term that is paid in full is complete and has the amount as its credit
+pub settle-full : (t : Terms) → refusalOf t 0 ≡ 0 → 0 < t .term
+    → settleOf t (replicate (12 * t .term) 1)
+    ≡ record { refusal = 0; place = 0; contribution = contributionOf t; status = 3; credit = t .amount * 100; refund = 0 }
+unfolding creditAtStatus refundAtStatus
+settle-full t pass monthly =
+    let paid : List ℕ = replicate (12 * t .term) 1 in
+    let law : LawfulFor (t .term) paid =
+    record { few = omega (arith, length-replicate {A = ℕ} (12 * t .term) 1); lawful = all-paid-lawful (12 * t .term) } in
+    let none : settleRefusal t paid ≡ 0 =
+    refused-by-marks t paid pass ∙ ap (λ (r : Reading). r .refusal) (marks-counts (t .term) paid law) in
+    settle-settled t paid none ∙ rw (full-status (t .term) monthly, full-credit t pass monthly)

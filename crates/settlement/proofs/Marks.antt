@@ -2,7 +2,7 @@
 -- Assumes nothing.
 use mathlib.Core.List.{List}
 use mathlib.Core.Logic.{⊎-elim}
-use mathlib.Core.Path.{_≡_, refl, sym, ap, _∙_}
+use mathlib.Core.Path.{_≡_, sym, ap, _∙_}
 use Prim.Native.Nat.{ℕ, _<_}
 use native.Mathlib.Omega.{arith}
 use Rattle.terms.specs.declared.Terms.{Terms}
@@ -12,7 +12,7 @@ use Rattle.marks.specs.Reading.{refusedOf, marksOf}
 use Rattle.marks.proofs.Term as term
 use Rattle.examination.specs.Examine.{settleRefusal}
 use Rattle.examination.proofs.Laws.{refused-by-marks, place-by-marks, lawful}
-use Rattle.settlement.specs.Settle.{SettleNumbers, settleOf}
+use Rattle.settlement.specs.Settle.{SettleNumbers, refusedNumbers, settleOf}
 use Rattle.settlement.specs.Marks.{MarksTold}
 use Rattle.settlement.proofs.Laws.{settle-refused, settle-refusal}
 
@@ -27,6 +27,11 @@ module _ (t : Terms) (ms : List ℕ) where
         ap (λ (n : SettleNumbers). n .place) whole ∙ place-by-marks t ms pass ∙ ap (λ (r : Reading). r .place) read,
       )
 
+  refused-numbers : refusalOf t 0 ≡ 0 → (settleOf t ms .refusal ≡ 0 → ⊥)
+      → settleOf t ms ≡ refusedNumbers (marksOf (t .term) ms .refusal) (marksOf (t .term) ms .place)
+  refused-numbers pass some =
+      settle-refused t ms (λ z. some (settle-refusal t ms ∙ z)) ∙ rw (refused-by-marks t ms pass, place-by-marks t ms pass)
+
   pub marks-told : MarksTold t ms (settleOf t ms)
   marks-told =
       record {
@@ -35,4 +40,7 @@ module _ (t : Terms) (ms : List ℕ) where
         too-many = λ pass many. refused pass 10 0 (omega arith) (term.too-many (t .term) ms many);
         first-bad = λ pass few k i bad.
             refused pass k i (⊎-elim (λ p. omega (arith, p .0)) (λ p. omega (arith, p .0)) (bad .number)) (term.first-bad (t .term) ms k i few bad);
+        refused = λ pass few some.
+            let is = refused-numbers pass some in
+            rw is (term.few-refused (t .term) ms few (rw is at some));
       }

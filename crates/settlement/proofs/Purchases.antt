@@ -7,12 +7,12 @@ use native.Mathlib.Nat.{mul-le-mul}
 use native.Mathlib.Omega.{arith}
 use lib.ListN.{length, getD}
 use Rattle.rounding.specs.Nearest.{nearest, combine}
-use Rattle.rounding.proofs.HalfUp.{nearest-within-half}
+use Rattle.rounding.proofs.InForce.{nearest-within-half}
 use Rattle.rates.specs.Rates.{rateOf, rowOf}
 use Rattle.terms.specs.declared.Terms.{Terms}
 use Rattle.election.specs.Price.{contributionAt, contributionIn}
 use Rattle.election.specs.Told.{Accepted}
-use Rattle.election.proofs.Rates.{monthly-rate}
+use Rattle.terms.proofs.Laws.{monthly-rate}
 use Rattle.money.specs.Limits.{stepPounds, unit, capPence}
 use Rattle.years.specs.Years.{ownContribution, yearCredits}
 use Rattle.years.specs.SoundRates.{purchase, SoundRates}

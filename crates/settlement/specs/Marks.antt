@@ -16,5 +16,7 @@ pub record MarksTold (t : Terms) (marks : List ℕ) (n : SettleNumbers) : Type 0
   pub accepted : refusalOf t 0 ≡ 0 → LawfulFor (t .term) marks → n .refusal ≡ 0
   -- more marks than months are refused with 10,
   pub too-many : refusalOf t 0 ≡ 0 → 12 * t .term < length marks → (n .refusal ≡ 10) × (n .place ≡ 0)
-  -- and else the first bad mark, with its number and at its index
+  -- else the first bad mark, with its number and at its index,
   pub first-bad : refusalOf t 0 ≡ 0 → length marks ≤ 12 * t .term → (k i : ℕ) → FirstBad marks k i → (n .refusal ≡ k) × (n .place ≡ i)
+  -- and nothing else is refused
+  pub refused : refusalOf t 0 ≡ 0 → length marks ≤ 12 * t .term → (n .refusal ≡ 0 → ⊥) → FirstBad marks (n .refusal) (n .place)

@@ -1,5 +1,6 @@
 -- Document 01, "What each operation gives", Settle.
 -- Assumes nothing.
+use mathlib.Core.Bool.{Bool, true, false}
 use mathlib.Core.List.{List}
 use Prim.Native.Nat.{ℕ, _*_}
 use lib.Dec.{eqb}
@@ -58,3 +59,8 @@ abbrev pub numbersOf : Settlement → SettleNumbers
 numbersOf (Refused n i) = refusedNumbers n i
 numbersOf (Settled own s held back) =
     record { refusal = 0; place = 0; contribution = own .0; status = s; credit = held .0; refund = back .0 }
+
+-- whether an answer is a refusal
+abbrev pub isRefused : Settlement → Bool
+isRefused (Refused n i) = true
+isRefused (Settled own s held back) = false

@@ -2,11 +2,11 @@
 ghost use mathlib.Core.Path.{_≡_};
 ghost use lib.ListN.{length};
 ghost use Prim.Native.Nat.{_*_, _≤_, _<_, _^_};
-ghost use lib.Dec.{eqb};
+ghost use lib.Dec.{eqb, ltb};
 ghost use Rattle.common.specs.Choice.{pick};
 ghost use Rattle.money.specs.Money.{pension, contribution};
 ghost use Rattle.settlement.specs.Credit.{creditOf};
-ghost use Rattle.settlement.specs.Settle.{creditAtStatus, settleOf, numbersOf};
+ghost use Rattle.settlement.specs.Settle.{creditAtStatus, settleOf, numbersOf, isRefused};
 ghost use Rattle.settlement.specs.Demand.{Demand3};
 ghost use Rattle.settlement.specs.Marks.{MarksTold};
 ghost use Rattle.examination.specs.Examine.{Monthly};
@@ -81,6 +81,7 @@ pub fn settle(t: Terms, marks: &[u8]) -> Settlement
     ensures is { λ r. ⌜ numbersOf r ≡ settleOf t (now (marks .entry)) ⌝ }
     ensures distance { λ r. ⌜ (Demand3 t (now (marks .entry)) (numbersOf r)) ⌝ }
     ensures marks { λ r. ⌜ MarksTold t (now (marks .entry)) (numbersOf r) ⌝ }
+    ensures refused { λ r. ⌜ isRefused r ≡ ltb 0 (settleOf t (now (marks .entry)) .refusal) ⌝ }
 {
     let e = examination::examine(t, marks);
     if e.refusal != 0 {

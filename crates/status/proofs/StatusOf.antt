@@ -1,14 +1,14 @@
 -- The status from the reading of lawful marks is the status of the marks; and what a status tells: its range, b of a refunded contract,
--- that a contract without status 6 is monthly.
+-- that a term paid in full is complete and a contract without status 6 monthly.
 -- Assumes nothing.
-use mathlib.Core.Bool.{Bool, _&&_}
+use mathlib.Core.Bool.{Bool, true, _&&_}
 use mathlib.Core.List.{List}
 use mathlib.Core.Path.{_≡_, refl, sym}
 use Prim.Native.Nat.{ℕ, zero, suc, _*_, _≤_, _<_}
 use native.Mathlib.Omega.{arith}
 use borrow.Author.Tests.{lt-ltb, le-ltb, le-leb, leb-true, leb-false, eq-eqb, ne-eqb}
 use lib.Dec.{ltb, leb, eqb, leb·suc-suc}
-use lib.ListN.{length}
+use lib.ListN.{length, replicate, length-replicate}
 use Rattle.common.specs.Choice.{pick}
 use Rattle.marks.specs.Counts.{lastOr, allPaid, paidThrough, finalGap}
 use Rattle.marks.specs.Lawful.{LawfulFor}
@@ -79,6 +79,24 @@ module _ (term : ℕ) (ms : List ℕ) where
       let after3 = not-first (λ (n : ℕ). n ≡ 5) test3 3 _ (λ z. omega arith) (after2 .1) in
       let after4 = not-first (λ (n : ℕ). n ≡ 5) test4 4 5 (λ z. omega arith) (after3 .1) in
       leb-false 12 (paidThrough ms) (after4 .0)
+
+-- a term that is paid in full is complete
+every-paid : (n : ℕ) → allPaid (replicate n 1) ≡ true
+unfolding allPaid
+every-paid zero = refl
+every-paid (suc n) = every-paid n
+
+pub full-status : (term : ℕ) → 0 < term → statusOf term (replicate (12 * term) 1) ≡ 3
+unfolding statusOf
+full-status term h =
+    rw (
+      length-replicate,
+      ne-eqb term 0 (λ z. omega arith),
+      ne-eqb (12 * term) 0 (λ z. omega arith),
+      le-ltb (12 * term) (12 * term) (omega arith),
+      eq-eqb (12 * term) (12 * term) refl,
+      every-paid (12 * term),
+    )
 
 -- a contract without status 6 is monthly
 pub not-lump : (term : ℕ) (ms : List ℕ) → (statusOf term ms ≡ 6 → ⊥) → 0 < term

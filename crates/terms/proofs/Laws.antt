@@ -1,48 +1,110 @@
--- The first half of the chain: what the rules before the rates tell of the whole.
+-- What callers use of the refusals without opening them: what passes, and which half of the chain decides.
 -- Assumes nothing.
-use mathlib.Core.Bool.{Bool, true, false}
-use mathlib.Core.Path.{_≡_, refl}
-use Prim.Native.Nat.{ℕ}
+use mathlib.Core.Bool.{Bool, false}
+use mathlib.Core.Path.{_≡_}
+use Prim.Native.Nat.{ℕ, _+_, _≤_, _<_}
 use native.Mathlib.Omega.{arith}
+use lib.Dec.{eqb}
+use borrow.Author.Tests.{eq-eqb, ne-eqb, eqb-false}
 use Rattle.common.specs.Choice.{pick}
+use Rattle.common.proofs.Choice.{either, not-first, first-refuses, first-passes, both-pass}
+use Rattle.common.proofs.Tests.{by-test, or-false}
+use Rattle.rates.specs.Rates.{rateOf, lumpRateOf}
 use Rattle.terms.specs.declared.Terms.{Terms}
-use Rattle.terms.specs.Rules.{wrongOption, wrongPensionAge, wrongTerm, wrongPayer, noLowerRate, noUpperRate, wrongAmount, aboveCap, refusalOf, early}
-use Rattle.terms.specs.Told.{TermsTold}
+use Rattle.terms.specs.Rate.{tableRate}
+use Rattle.terms.specs.Rules.{wrongOption, wrongPensionAge, wrongTerm, wrongPayer, missingUpper, noRate, noUpperRate, wrongAmount, aboveCap}
+use Rattle.terms.specs.Rules.{termsRefusal, priceRefusal, refusalOf}
+use Rattle.terms.specs.Told.{TermsPass}
 
--- the chain's second half is never early
-pub late : (a b c d : Bool) → early (pick a 5 (pick b 6 (pick c 7 (pick d 8 0)))) ≡ 0
-unfolding early
-late true b c d = refl
-late false true c d = refl
-late false false true d = refl
-late false false false true = refl
-late false false false false = refl
+-- a chain gives 0 only where its first test fails and the rest gives 0
+passed : (b : Bool) (n rest : ℕ) → 0 < n → pick b n rest ≡ 0 → (b ≡ false) × (rest ≡ 0)
+passed b n rest p = not-first (λ x. x ≡ 0) b n rest (λ z. omega arith)
 
-first : (a b c d : Bool) (n m : ℕ) → early n ≡ 0 → (early (pick a 1 (pick b 2 (pick c 3 (pick d 4 n)))) ≡ 0 → ⊥)
-    → early (pick a 1 (pick b 2 (pick c 3 (pick d 4 n)))) ≡ pick a 1 (pick b 2 (pick c 3 (pick d 4 m)))
-unfolding early
-first true b c d n m e some = refl
-first false true c d n m e some = refl
-first false false true d n m e some = refl
-first false false false true n m e some = refl
-first false false false false n m e some = absurd (some e)
+-- the rules before the rates pass
+pub terms-pass : (t : Terms) → termsRefusal t ≡ 0 → TermsPass t
+unfolding termsRefusal
+terms-pass t z =
+    let r1 = passed (wrongOption t) 1 _ (omega arith) z in
+    let r2 = passed (wrongPensionAge t) 2 _ (omega arith) (r1 .1) in
+    let r3 = passed (wrongTerm t) 3 _ (omega arith) (r2 .1) in
+    let r4 = passed (wrongPayer t) 4 0 (omega arith) (r3 .1) in
+    record { option = r1 .0; pension-age = r2 .0; term = r3 .0; payer = r4 .0 }
 
-pass : (a b c d : Bool) (n : ℕ) → early (pick a 1 (pick b 2 (pick c 3 (pick d 4 n)))) ≡ 0
-    → (a ≡ false) × (b ≡ false) × (c ≡ false) × (d ≡ false)
-unfolding early
-pass true b c d n z = absurd (omega arith)
-pass false true c d n z = absurd (omega arith)
-pass false false true d n z = absurd (omega arith)
-pass false false false true n z = absurd (omega arith)
-pass false false false false n z = (refl, refl, refl, refl)
+-- what passes where a price does
+pub record PricePass (t : Terms) (existing : ℕ) : Type 0 where
+  pub rate : noRate t ≡ false
+  pub upper : noUpperRate t ≡ false
+  pub amount : wrongAmount t ≡ false
+  pub cap : aboveCap t existing ≡ false
 
-pub terms-told : (t : Terms) → TermsTold t (early (refusalOf t 0))
+pub price-pass : (t : Terms) (existing : ℕ) → priceRefusal t existing ≡ 0 → PricePass t existing
+unfolding priceRefusal
+price-pass t existing z =
+    let r5 = passed (noRate t) 5 _ (omega arith) z in
+    let r6 = passed (noUpperRate t) 6 _ (omega arith) (r5 .1) in
+    let r7 = passed (wrongAmount t) 7 _ (omega arith) (r6 .1) in
+    let r8 = passed (aboveCap t existing) 8 0 (omega arith) (r7 .1) in
+    record { rate = r5 .0; upper = r6 .0; amount = r7 .0; cap = r8 .0 }
+
+-- the two halves of the chain
+module _ (t : Terms) (existing : ℕ) where
+  pub by-terms : (termsRefusal t ≡ 0 → ⊥) → refusalOf t existing ≡ termsRefusal t
+  unfolding refusalOf
+  by-terms = first-refuses (termsRefusal t) (priceRefusal t existing)
+
+  pub by-price : termsRefusal t ≡ 0 → refusalOf t existing ≡ priceRefusal t existing
+  unfolding refusalOf
+  by-price = first-passes (termsRefusal t) (priceRefusal t existing)
+
+  pub none-refuses : refusalOf t existing ≡ 0 → (termsRefusal t ≡ 0) × (priceRefusal t existing ≡ 0)
+  unfolding refusalOf
+  none-refuses = both-pass (termsRefusal t) (priceRefusal t existing)
+
+-- the greatest refusals of each half, and of the whole
+pub terms-refusal-most : (t : Terms) → termsRefusal t ≤ 4
+unfolding termsRefusal
+terms-refusal-most t =
+    let Most : ℕ → Type 0 = λ n. n ≤ 4 in
+    either Most (wrongOption t) (omega arith)
+    (either Most (wrongPensionAge t) (omega arith)
+    (either Most (wrongTerm t) (omega arith) (either Most (wrongPayer t) (omega arith) (omega arith))))
+
+pub price-refusal-most : (t : Terms) (existing : ℕ) → priceRefusal t existing ≤ 8
+unfolding priceRefusal
+price-refusal-most t existing =
+    let Most : ℕ → Type 0 = λ n. n ≤ 8 in
+    either Most (noRate t) (omega arith)
+    (either Most (noUpperRate t) (omega arith)
+    (either Most (wrongAmount t) (omega arith) (either Most (aboveCap t existing) (omega arith) (omega arith))))
+
+pub refusal-most : (t : Terms) (existing : ℕ) → refusalOf t existing ≤ 8
 unfolding refusalOf
-terms-told t =
-    record {
-      first = λ e. first (wrongOption t) (wrongPensionAge t) (wrongTerm t) (wrongPayer t) _ _
-          (late (noLowerRate t) (noUpperRate t) (wrongAmount t) (aboveCap t 0));
-      pass = λ z.
-          let p = pass (wrongOption t) (wrongPensionAge t) (wrongTerm t) (wrongPayer t) _ z in
-          record { option = p .0; pension-age = p .1; term = p .2; payer = p .3 };
-    }
+refusal-most t existing =
+    either (λ n. n ≤ 8) (eqb (termsRefusal t) 0) (price-refusal-most t existing) (omega (arith, terms-refusal-most t))
+
+-- the rate of a whole pension age: of Table S for a lump sum, else of the monthly table
+pub lump-rate : (t : Terms) (p : ℕ) → t .term ≡ 0 → tableRate t p ≡ lumpRateOf (t .option) p (t .age)
+unfolding tableRate
+lump-rate t p z = rw (eq-eqb (t .term) 0 z)
+
+pub monthly-rate : (t : Terms) (p : ℕ) → 0 < t .term → tableRate t p ≡ rateOf (t .option) p (t .age) (t .term)
+unfolding tableRate
+monthly-rate t p monthly = rw (ne-eqb (t .term) 0 (λ z. omega arith))
+
+-- the needed rates are there where 5 and 6 pass
+
+upper-there : (t : Terms) (upper : ℕ) → missingUpper t upper ≡ false → (t .months ≡ 0 → ⊥) → 0 < upper
+upper-there t upper e odd = omega (arith, eqb-false upper 0 (rw (ne-eqb (t .months) 0 odd) at e))
+
+module _ (t : Terms) (rate : noRate t ≡ false) where
+  pub lower-rate : 0 < tableRate t (t .years)
+  unfolding noRate
+  lower-rate =
+      by-test (eqb (t .term) 0) (λ e. omega (arith, eqb-false (tableRate t (t .years)) 0 (or-false _ _ (rw e at rate) .0)))
+      (λ e. omega (arith, eqb-false (tableRate t (t .years)) 0 (rw e at rate)))
+
+  pub upper-rate : noUpperRate t ≡ false → (t .months ≡ 0 → ⊥) → 0 < tableRate t (t .years + 1)
+  unfolding noRate noUpperRate
+  upper-rate upper =
+      by-test (eqb (t .term) 0) (λ e. upper-there t (tableRate t (t .years + 1)) (or-false (eqb (tableRate t (t .years)) 0) _ (rw e at rate) .1))
+      (λ e. upper-there t (tableRate t (t .years + 1)) (rw e at upper))

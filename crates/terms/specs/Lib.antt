@@ -1,3 +1,4 @@
 pub mod Rate
 pub mod Rules
 pub mod Told
+pub mod Printed

@@ -3,7 +3,7 @@
 use mathlib.Core.Bool.{Bool, not, _&&_, _||_}
 use Prim.Native.Nat.{ℕ, _+_, _*_, _%_}
 use lib.Dec.{ltb, eqb}
-use Rattle.common.specs.Choice.{pick}
+use Rattle.common.specs.Choice.{pick, firstOf}
 use Rattle.money.specs.Limits.{stepPounds, capPence}
 use Rattle.terms.specs.declared.Terms.{Terms}
 use Rattle.terms.specs.Rate.{tableRate}
@@ -24,13 +24,20 @@ wrongTerm t = ltb 20 (t .term)
 unfoldable pub wrongPayer : Terms → Bool
 wrongPayer t = not (eqb (t .payer) 1 || eqb (t .payer) 2) || (eqb (t .payer) 2 && ltb 0 (t .term))
 
--- 5: nothing printed for that age and term in the only or lower table; Table S is the table of a lump sum
-unfoldable pub noLowerRate : Terms → Bool
-noLowerRate t = eqb (tableRate t (t .years)) 0
+-- the rate of the upper pension age, which odd months need, is none
+abbrev pub missingUpper : Terms → ℕ → Bool
+missingUpper t upper = not (eqb (t .months) 0) && eqb upper 0
 
--- 6: odd months need the upper table, and nothing is printed there
+-- 5: for a lump sum, nothing in Table S at a needed pension age; else nothing in the only or lower monthly table
+unfoldable pub noRate : Terms → Bool
+noRate t =
+    pick (eqb (t .term) 0)
+    (eqb (tableRate t (t .years)) 0 || missingUpper t (tableRate t (t .years + 1)))
+    (eqb (tableRate t (t .years)) 0)
+
+-- 6: nothing in the upper monthly table, which odd months need
 unfoldable pub noUpperRate : Terms → Bool
-noUpperRate t = not (eqb (t .months) 0) && eqb (tableRate t (t .years + 1)) 0
+noUpperRate t = not (eqb (t .term) 0) && missingUpper t (tableRate t (t .years + 1))
 
 -- 7: less than £250, or not in steps of £250
 unfoldable pub wrongAmount : Terms → Bool
@@ -40,18 +47,15 @@ wrongAmount t = ltb (t .amount) stepPounds || not (eqb (t .amount % stepPounds) 
 unfoldable pub aboveCap : Terms → ℕ → Bool
 aboveCap t existing = ltb capPence (existing + t .amount * 100)
 
+-- of the rules that need no rate the number of the first that refuses, 0 where none does
+unfoldable pub termsRefusal : Terms → ℕ
+termsRefusal t = pick (wrongOption t) 1 (pick (wrongPensionAge t) 2 (pick (wrongTerm t) 3 (pick (wrongPayer t) 4 0)))
+
+-- and of the others, which a price has to pass
+unfoldable pub priceRefusal : Terms → ℕ → ℕ
+priceRefusal t existing =
+    pick (noRate t) 5 (pick (noUpperRate t) 6 (pick (wrongAmount t) 7 (pick (aboveCap t existing) 8 0)))
+
 -- the number of the first rule that refuses, 0 where none does
 unfoldable pub refusalOf : Terms → ℕ → ℕ
-refusalOf t existing =
-    pick (wrongOption t) 1
-    (pick (wrongPensionAge t) 2
-    (pick (wrongTerm t) 3
-    (pick (wrongPayer t) 4
-    (pick (noLowerRate t) 5
-    (pick (noUpperRate t) 6
-    (pick (wrongAmount t) 7
-    (pick (aboveCap t existing) 8 0)))))))
-
--- a refusal's number where it is 1 to 4, the rules that need no rate; else 0
-unfoldable pub early : ℕ → ℕ
-early n = pick (ltb n 5) n 0
+refusalOf t existing = firstOf (termsRefusal t) (priceRefusal t existing)

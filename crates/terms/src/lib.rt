@@ -1,6 +1,6 @@
 // The terms of an election, and the rules that refuse them before a rate is looked up.
 ghost use mathlib.Core.Path.{_≡_};
-ghost use Rattle.terms.specs.Rules.{wrongOption, wrongPensionAge, wrongPayer, refusalOf, early};
+ghost use Rattle.terms.specs.Rules.{wrongOption, wrongPensionAge, wrongPayer, termsRefusal};
 
 // Age in whole years, pension age in years and months, 1 personal or 2 with dependant's pension, 1 member or 2 employer,
 // years of monthly payments or 0 for a lump sum, pounds of pension a year. Any numbers: `election::price` refuses bad ones.
@@ -50,10 +50,9 @@ fn wrong_payer(t: Terms) -> bool
     true
 }
 
-// The rules that need no rate, 1 to 4: the first that refuses, else 0. They do not look at existing pension, hence the 0 in the
-// promise.
+// The rules that need no rate, 1 to 4: the first that refuses, else 0.
 pub fn terms_refusal(t: Terms) -> u32
-    ensures { λ r. ⌜ r ≡ early (refusalOf t 0) ⌝ }
+    ensures { λ r. ⌜ r ≡ termsRefusal t ⌝ }
 {
     if wrong_option(t) {
         return 1;

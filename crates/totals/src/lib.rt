@@ -26,7 +26,7 @@ pub const MOST_RECORDS: usize = 64;
 fn opening(n: usize) -> Tally
     ensures { λ r. ⌜ r ≡ openingOf n ⌝ }
 {
-    let credit = PensionPence(0);
+    let credit = PensionPence::none();
     if n > MOST_RECORDS {
         return Tally {
             end: 0,
@@ -54,7 +54,7 @@ fn add(t: Tally, c: Contract, index: usize) -> Tally
 {
     let check = records::check_record(c);
     let sum = t.total.credit;
-    let none = PensionPence(0);
+    let none = PensionPence::none();
     if check.bad {
         return Tally {
             end: 0,

@@ -15,7 +15,7 @@ fn year_credit(own: ContributionPence, rate: u32) -> u32
     requires { ⌜ (0 < rate) × (own .0 * unit ≤ (2 ^ 32 - 1) * rate) ⌝ }
     ensures { λ r. ⌜ r ≡ nearest (own .0 * unit) rate ⌝ }
 {
-    rounding::nearest(own.0 * money::UNIT, rate as u64) as u32
+    own.buys(rate).0 as u32
 }
 
 // The twenty-one whole-year credits of one table's rates. Year 0 and the years past the term stay 0.

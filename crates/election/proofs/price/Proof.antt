@@ -9,9 +9,8 @@ use Rattle.election.proofs.Laws.{pension-age-in, priced-refused, priced
 use Rattle.election.proofs.Rates.{lower-found, upper-found, found-upper-most, table-rate-most}
 use Rattle.election.specs.Price.{contributionAt, contributionIn, contributionOf, refused, pricedOf}
 use Rattle.terms.specs.Rate.{tableRate, ratesAt, upperRatesAt, foundIn}
-use Rattle.terms.specs.Rules.{refusalOf, early}
-use Rattle.terms.specs.Told.{TermsTold}
-use Rattle.terms.proofs.Laws.{terms-told}
+use Rattle.terms.specs.Rules.{priceRefusal, refusalOf}
+use Rattle.terms.proofs.Laws.{terms-pass, by-terms, by-price}
 use Rattle.election.specs.declared.Priced.{Priced}
 use Rattle.terms.specs.declared.Terms.{Terms}
 use Rattle.money.specs.Money.{contribution}
@@ -37,19 +36,22 @@ whole : (t : Terms) (existing : ℕ) {k : ContributionPence} {lower upper : List
     → _≡_ {A = Priced} (record { refusal = 0; contribution = k; lower = lower; upper = upper }) (pricedOf t existing)
 whole t existing h p q r = rw (p, q, r) (sym (priced-accepted t existing h))
 
-early-told : (t : Terms) {n : ℕ} → n ≡ early (refusalOf t 0) → TermsTold t n
-early-told t e = rw e (terms-told t)
-
 -- the rates that were looked up are those of the tables
 module _ (c : tie.After-found-in2) where
   abbrev terms-of : Terms
   terms-of = c .before .before .before .before .before .before .before .args .t
 
   lower-is : c .before .found-in .result ≡ tableRate terms-of (terms-of .years)
-  lower-is = lower-found terms-of _ (c .before .before .before .before .rates-at .ensures) (c .before .found-in .ensures)
+  lower-is = lower-found terms-of _ (c .before .before .before .rates-at .ensures) (c .before .found-in .ensures)
 
   upper-is : (terms-of .months ≡ 0 → ⊥) → c .found-in2 .result ≡ tableRate terms-of (terms-of .years + 1)
   upper-is = upper-found terms-of _ (c .before .before .upper-rates-at .ensures) (c .found-in2 .ensures)
+
+  -- where no rule before the rates refuses, the whole refusal is that of the price
+  refusal-is : (existing n : ℕ) → n ≡ priceRefusal terms-of existing → n ≡ refusalOf terms-of existing
+  refusal-is existing n e =
+      let early = c .before .before .before .before .before in
+      e ∙ sym (by-price terms-of existing (sym (early .before .terms-refusal .ensures) ∙ early .if1 .left))
 
 terms-refusal-requires : tie.Need-terms-refusal-requires
 terms-refusal-requires c κs = search needs
@@ -59,17 +61,17 @@ refuse-requires c κs = search needs
 
 returns : tie.Need-returns
 returns c =
-    let told = early-told _ (c .before .before .terms-refusal .ensures) in
+    let told = c .before .before .terms-refusal .ensures in
     let some = c .before .if1 .taken in
-    c .refuse .ensures ∙ first _ _ _ (told .first _ some) some
+    c .refuse .ensures ∙ first _ _ _ (told ∙ sym (by-terms _ _ (λ z. some (told ∙ z)))) some
+
+add-next : tie.Need-add-next
+add-next c =
+    let pass = terms-pass _ (sym (c .before .before .terms-refusal .ensures) ∙ c .before .if1 .left) in
+    omega (arith, pension-age-in _ (pass .pension-age))
 
 rates-at-requires : tie.Need-rates-at-requires
 rates-at-requires c κs = search needs
-
-add-upper-rates-at : tie.Need-add-upper-rates-at
-add-upper-rates-at c =
-    let pass = early-told _ (c .before .before .before .terms-refusal .ensures) .pass (c .before .before .if1 .left) in
-    omega (arith, pension-age-in _ (pass .pension-age))
 
 upper-rates-at-requires : tie.Need-upper-rates-at-requires
 upper-rates-at-requires c κs = search needs
@@ -81,36 +83,32 @@ found-in-requires-2 : tie.Need-found-in-requires-2
 found-in-requires-2 c κs = search needs
 
 price-refusal-requires : tie.Need-price-refusal-requires
-price-refusal-requires c κs =
-    let early = c .before .before .before .before .before in
-    record {
-      pass = early-told _ (early .before .terms-refusal .ensures) .pass (early .if1 .left);
-      lower-is = lower-is c;
-      upper-is = upper-is c;
-    }
+price-refusal-requires c κs = record { lower-is = lower-is c; upper-is = upper-is c }
 
 refuse-requires-2 : tie.Need-refuse-requires-2
 refuse-requires-2 c κs = search needs
 
 returns-2 : tie.Need-returns-2
-returns-2 c = c .refuse2 .ensures ∙ first _ _ _ (c .before .before .price-refusal .ensures) (c .before .if2 .taken)
+returns-2 c =
+    let late = c .before .before in
+    c .refuse2 .ensures ∙ first _ _ _ (refusal-is (late .before) _ _ (late .price-refusal .ensures)) (c .before .if2 .taken)
 
 cost-requires : tie.Need-cost-requires
 cost-requires c κs =
     let b = c .before .before in
     let t = terms-of b in
-    let low = accepted-facts t _ (sym (c .before .price-refusal .ensures) ∙ c .if2 .left) in (
+    let low = accepted-facts t _ (sym (refusal-is b _ _ (c .before .price-refusal .ensures)) ∙ c .if2 .left) in (
       omega (arith, low .under-cap),
       omega (arith, lower-is b, table-rate-most t (t .years)),
-      omega (arith, b .found-in2 .ensures ∙ ap (foundIn t) (b .before .before .upper-rates-at .ensures), found-upper-most t (t .years + 1)),
+      omega (arith, b .found-in2 .ensures ∙ ap (foundIn t (t .years + 1)) (b .before .before .upper-rates-at .ensures), found-upper-most t (t .years + 1)),
     )
 
 returns-3 : tie.Need-returns-3
 returns-3 c =
     let b = c .before .before .before in
-    whole (terms-of b) _ (sym (c .before .before .price-refusal .ensures) ∙ c .before .if2 .left)
+    whole (terms-of b) _ (sym (refusal-is b _ _ (c .before .before .price-refusal .ensures)) ∙ c .before .if2 .left)
     (c .cost .ensures ∙ ap contribution (costs (terms-of b) _ _ (lower-is b) (upper-is b)))
-    (b .before .before .before .before .rates-at .ensures) (b .before .before .upper-rates-at .ensures)
+    (b .before .before .before .rates-at .ensures) (b .before .before .upper-rates-at .ensures)
 
 pub price-spec : {M : Type 1} → statement M
 price-spec =
@@ -119,8 +117,8 @@ price-spec =
     terms-refusal-requires
     refuse-requires
     returns
+    add-next
     rates-at-requires
-    add-upper-rates-at
     upper-rates-at-requires
     found-in-requires
     found-in-requires-2

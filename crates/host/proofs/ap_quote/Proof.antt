@@ -28,7 +28,7 @@ array-read-result c = search needs
 cast-result : tie.Need-cast-result
 cast-result c =
     let d = c .before .before .before .before .before in
-    let most = quote-value-most _ _ _ (d .before .quote .ensures) (d .quote-numbers .ensures) in
+    let most = quote-value-most _ _ _ (d .before .quote .ensures .0) (d .quote-numbers .ensures) in
     omega (arith, most)
 
 same-length : tie.Need-same-length
@@ -37,7 +37,7 @@ same-length c = search needs
 returns-2 : tie.Need-returns-2
 returns-2 c =
     let d = c .before .before .before .before .before in
-    quote-told _ _ _ _ (d .before .before .if1 .left) (d .before .quote .ensures) (d .quote-numbers .ensures) (c .before .before .put-all .ensures)
+    quote-told _ _ _ _ (d .before .before .if1 .left) (d .before .quote .ensures .0) (d .quote-numbers .ensures) (c .before .before .put-all .ensures)
 
 pub ap-quote-spec : {M : Type 1} → statement M
 ap-quote-spec =

@@ -1,16 +1,21 @@
 -- `quotes::quote` meets its contract: the terms' refusal, then a full register, then the quote.
 -- Assumes nothing.
+use mathlib.Core.Bool.{Bool}
 use mathlib.Core.Path.{_≡_, sym, ap, _∙_}
 use Prim.Native.Nat.{ℕ, _+_, _≤_, _<_}
 use native.Mathlib.Omega.{arith}
+use lib.Dec.{ltb}
 use borrow.Author.Needs.{needs}
-use borrow.Author.Tests.{eq-eqb, ne-eqb, le-leb, lt-leb}
+use borrow.Author.Tests.{eq-eqb, ne-eqb, le-leb, lt-leb, lt-ltb}
 use Rattle.election.proofs.Laws.{priced-told, priced-contribution}
 use Rattle.election.specs.Price.{contributionOf}
 use Rattle.terms.specs.Rules.{refusalOf}
 use Rattle.election.specs.declared.Priced.{Priced}
 use Rattle.terms.specs.declared.Terms.{Terms}
-use Rattle.quotes.specs.Quote.{QuoteNumbers, quoteRefusal, quoteOf, numbersOf}
+use Rattle.quotes.specs.Quote.{QuoteNumbers, quoteRefusal, quoteOf, numbersOf, isRefused}
+use Rattle.quotes.specs.declared.QuoteAnswer.the-variants.{Refused}
+use Rattle.quotes.specs.declared.Quoted.{Quoted}
+use Rattle.quotes.specs.declared.Register.{Register}
 use Rattle.quotes.proofs.quote.Statement.{statement}
 use Rattle.quotes.proofs.quote.Tie as tie
 
@@ -37,6 +42,15 @@ module _ (t : Terms) (existing last : ℕ) where
   unfolding quoteOf
   made k e z = rw (e, eq-eqb _ _ z)
 
+-- whether numbers have a refusal
+abbrev some-refusal : QuoteNumbers → Bool
+some-refusal n = ltb 0 (n .refusal)
+
+-- a refusal above 0 is one
+refuses : (n : ℕ) (register : Register) {q : Quoted} → q ≡ record { answer = Refused n; register = register } → (n ≡ 0 → ⊥)
+    → isRefused (q .answer) ≡ some-refusal (numbersOf q)
+refuses n register e some = rw (e, lt-ltb 0 n (omega (arith, some)))
+
 price-requires : tie.Need-price-requires
 price-requires c κs = search needs
 
@@ -45,9 +59,10 @@ refuse-requires c κs = search needs
 
 returns : tie.Need-returns
 returns c =
-    let told = priced-told _ _ (c .before .before .before .price .ensures) in
+    let first = priced-told _ _ (c .before .before .before .price .ensures) in
     let some = c .before .if1 .taken in
-    ap numbersOf (c .refuse .ensures) ∙ refused _ _ _ _ (told ∙ sym (by-terms _ _ _ (λ z. some (told ∙ z)))) some
+    let is = ap numbersOf (c .refuse .ensures) ∙ refused _ _ _ _ (first ∙ sym (by-terms _ _ _ (λ z. some (first ∙ z)))) some in
+    (is, refuses _ _ (c .refuse .ensures) some ∙ ap some-refusal is)
 
 refuse-requires-2 : tie.Need-refuse-requires-2
 refuse-requires-2 c κs = search needs
@@ -56,7 +71,8 @@ returns-2 : tie.Need-returns-2
 returns-2 c =
     let b = c .before .before .before in
     let pass = sym (priced-told _ _ (b .before .before .price .ensures)) ∙ b .if1 .left in
-    ap numbersOf (c .refuse2 .ensures) ∙ refused _ _ _ _ (sym (full _ _ _ pass (c .before .if2 .taken))) (λ z. omega arith)
+    let is = ap numbersOf (c .refuse2 .ensures) ∙ refused _ _ _ _ (sym (full _ _ _ pass (c .before .if2 .taken))) (λ z. omega arith) in
+    (is, refuses _ _ (c .refuse2 .ensures) (λ z. omega arith) ∙ ap some-refusal is)
 
 add-number : tie.Need-add-number
 add-number c = search needs
@@ -66,8 +82,9 @@ returns-3 c =
     let b = c .before .before .before .before in
     let paid = b .before .before .price .ensures in
     let pass = sym (priced-told _ _ paid) ∙ b .if1 .left in
-    made _ _ _ _ (ap (λ (p : Priced). p .contribution .0) paid ∙ priced-contribution _ _ pass)
-    (open-register _ _ _ pass (c .before .before .if2 .left))
+    let is = made _ _ _ _ (ap (λ (p : Priced). p .contribution .0) paid ∙ priced-contribution _ _ pass)
+    (open-register _ _ _ pass (c .before .before .if2 .left)) in
+    (is, ap some-refusal is)
 
 pub quote-spec : {M : Type 1} → statement M
 quote-spec =

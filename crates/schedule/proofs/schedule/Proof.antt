@@ -10,6 +10,8 @@ use borrow.Author.Tests.{eq-eqb, ne-eqb, lt-ltb, le-ltb}
 use Rattle.common.specs.Table.{tabulate}
 use Rattle.terms.specs.declared.Terms.{Terms}
 use Rattle.schedule.specs.Schedule.{ScheduleNumbers, filledOf, scheduleOf}
+use Rattle.settlement.specs.Settle.{settleOf}
+use Rattle.settlement.proofs.Laws.{settle-refused, settle-refusal}
 use Rattle.settlement.proofs.Purchases.{lower-sound, years-of}
 use Rattle.examination.proofs.Examination.{examined-told, examined-none, examined-monthly}
 use Rattle.examination.proofs.Laws.{lawful, examined-refused}
@@ -27,17 +29,17 @@ module _ (t : Terms) (marks list : List ℕ) where
   unfolding scheduleOf
   refused is some =
       let refuses : settleRefusal t marks ≡ 0 → ⊥ = λ z. some (examined-told t marks is ∙ z) in
-      rw (is, examined-refused t marks refuses, ne-eqb (settleRefusal t marks) 0 refuses)
+      rw (is, examined-refused t marks refuses, settle-refused t marks refuses, ne-eqb (settleRefusal t marks) 0 refuses)
 
   short : settleRefusal t marks ≡ 0 → length list < length marks
       → _≡_ {A = ScheduleNumbers} (record { refusal = 14; place = 0; list = list }) (scheduleOf t marks list)
   unfolding scheduleOf
-  short none h = rw (eq-eqb (settleRefusal t marks) 0 none, lt-ltb (length list) (length marks) h)
+  short none h = rw (eq-eqb (settleOf t marks .refusal) 0 (settle-refusal t marks ∙ none), lt-ltb (length list) (length marks) h)
 
   filled : settleRefusal t marks ≡ 0 → length marks ≤ length list
       → _≡_ {A = ScheduleNumbers} (record { refusal = 0; place = 0; list = filledOf t marks list }) (scheduleOf t marks list)
   unfolding scheduleOf
-  filled none h = rw (eq-eqb (settleRefusal t marks) 0 none, le-ltb (length list) (length marks) h)
+  filled none h = rw (eq-eqb (settleOf t marks .refusal) 0 (settle-refusal t marks ∙ none), le-ltb (length list) (length marks) h)
 
   -- with no marks nothing is written
   unwritten : length marks ≡ 0 → list ≡ filledOf t marks list

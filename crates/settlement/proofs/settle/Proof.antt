@@ -1,11 +1,13 @@
 -- `settlement::settle` meets its contract: the numbers are those defined, and so demand 3 holds of them.
 -- Assumes nothing.
+use mathlib.Core.Bool.{Bool, true}
 use mathlib.Core.List.{List}
-use mathlib.Core.Path.{_≡_, sym, subst, _∙_}
+use mathlib.Core.Path.{_≡_, refl, sym, ap, subst, _∙_}
 use Prim.Native.Nat.{ℕ, _*_, _≤_, _<_, _^_}
 use native.Mathlib.Omega.{arith}
-use lib.Dec.{eqb}
+use lib.Dec.{eqb, ltb}
 use borrow.Author.Needs.{needs}
+use borrow.Author.Tests.{lt-ltb}
 use Rattle.common.specs.Choice.{pick}
 use Rattle.election.proofs.Laws.{contribution-most}
 use Rattle.terms.specs.declared.Terms.{Terms}
@@ -27,9 +29,14 @@ use Rattle.examination.specs.declared.Examined.{Examined}
 use Rattle.settlement.proofs.settle.Statement.{statement}
 use Rattle.settlement.proofs.settle.Tie as tie
 
--- what holds of the defined numbers holds of equal ones
-near : (t : Terms) (ms : List ℕ) {n : SettleNumbers} → n ≡ settleOf t ms → (n ≡ settleOf t ms) × (Demand3 t ms n × MarksTold t ms n)
-near t ms is = (is, (subst (Demand3 t ms) (sym is) (demand-3 t ms), subst (MarksTold t ms) (sym is) (marks-told t ms)))
+-- what holds of the defined numbers holds of equal ones; b says whether the answer is a refusal
+near : (t : Terms) (ms : List ℕ) {n : SettleNumbers} {b : Bool} → n ≡ settleOf t ms → b ≡ ltb 0 (n .refusal)
+    → (n ≡ settleOf t ms) × (Demand3 t ms n × (MarksTold t ms n × (b ≡ ltb 0 (settleOf t ms .refusal))))
+near t ms is says =
+    (is, (subst (Demand3 t ms) (sym is) (demand-3 t ms), (subst (MarksTold t ms) (sym is) (marks-told t ms), says ∙ ap (λ (n : SettleNumbers). ltb 0 (n .refusal)) is)))
+
+above-0 : (n : ℕ) → (n ≡ 0 → ⊥) → true ≡ ltb 0 n
+above-0 n some = sym (lt-ltb 0 n (omega (arith, some)))
 
 module _ (t : Terms) (ms : List ℕ) {e : Examined} (is : e ≡ examinedOf t ms) where
   refuses : (e .refusal ≡ 0 → ⊥) → refusedNumbers (e .refusal) (e .place) ≡ settleOf t ms
@@ -54,7 +61,7 @@ examine-requires : tie.Need-examine-requires
 examine-requires c κs = search needs
 
 returns : tie.Need-returns
-returns c = near _ _ (refuses _ _ (c .before .before .examine .ensures) (c .if1 .taken))
+returns c = near _ _ (refuses _ _ (c .before .before .examine .ensures) (c .if1 .taken)) (above-0 _ (c .if1 .taken))
 
 credit-at-status-requires : tie.Need-credit-at-status-requires
 credit-at-status-requires c κs =
@@ -70,7 +77,7 @@ refund-at-status-requires c κs =
 returns-2 : tie.Need-returns-2
 returns-2 c =
     let e = c .before .before .before .before .before .before .before .examine .ensures in
-    near _ _ (settles _ _ e (examined-none _ _ e (c .before .before .before .before .before .if1 .left)) (c .before .credit-at-status .ensures) (c .refund-at-status .ensures))
+    near _ _ (settles _ _ e (examined-none _ _ e (c .before .before .before .before .before .if1 .left)) (c .before .credit-at-status .ensures) (c .refund-at-status .ensures)) refl
 
 pub settle-spec : {M : Type 1} → statement M
 settle-spec =

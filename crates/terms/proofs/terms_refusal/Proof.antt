@@ -3,8 +3,7 @@
 use mathlib.Core.Path.{sym, _∙_}
 use borrow.Author.Needs.{needs}
 use borrow.Author.Tests.{lt-ltb, le-ltb}
-use Rattle.terms.specs.Rules.{wrongTerm, noLowerRate, noUpperRate, wrongAmount, aboveCap, refusalOf, early}
-use Rattle.terms.proofs.Laws.{late}
+use Rattle.terms.specs.Rules.{wrongTerm, termsRefusal}
 use Rattle.terms.proofs.terms_refusal.Statement.{statement}
 use Rattle.terms.proofs.terms_refusal.Tie as tie
 
@@ -12,14 +11,14 @@ wrong-option-requires : tie.Need-wrong-option-requires
 wrong-option-requires c κs = search needs
 
 returns : tie.Need-returns
-unfolding refusalOf early
+unfolding termsRefusal
 returns c = rw (sym (c .before .wrong-option .ensures) ∙ c .if1 .taken)
 
 wrong-pension-age-requires : tie.Need-wrong-pension-age-requires
 wrong-pension-age-requires c κs = search needs
 
 returns-2 : tie.Need-returns-2
-unfolding refusalOf early
+unfolding termsRefusal
 returns-2 c =
     rw (
       sym (c .before .before .before .wrong-option .ensures) ∙ c .before .before .if1 .left,
@@ -27,7 +26,7 @@ returns-2 c =
     )
 
 returns-3 : tie.Need-returns-3
-unfolding refusalOf early wrongTerm
+unfolding termsRefusal wrongTerm
 returns-3 c =
     rw (
       sym (c .before .before .before .before .before .wrong-option .ensures) ∙ c .before .before .before .before .if1 .left,
@@ -39,7 +38,7 @@ wrong-payer-requires : tie.Need-wrong-payer-requires
 wrong-payer-requires c κs = search needs
 
 returns-4 : tie.Need-returns-4
-unfolding refusalOf early wrongTerm
+unfolding termsRefusal wrongTerm
 returns-4 c =
     let option = c .before .before .before .before .before .before in
     let age = c .before .before .before .before in
@@ -51,7 +50,7 @@ returns-4 c =
     )
 
 returns-5 : tie.Need-returns-5
-unfolding refusalOf wrongTerm
+unfolding termsRefusal wrongTerm
 returns-5 c =
     let option = c .before .before .before .before .before .before in
     let age = c .before .before .before .before in
@@ -61,7 +60,6 @@ returns-5 c =
       le-ltb _ _ (c .before .before .if3 .left),
       sym (c .before .wrong-payer .ensures) ∙ c .if4 .left,
     )
-    (sym (late (noLowerRate _) (noUpperRate _) (wrongAmount _) (aboveCap _ 0)))
 
 pub terms-refusal-spec : {M : Type 1} → statement M
 terms-refusal-spec =

@@ -13,7 +13,7 @@ use lib.Seq.{getD-set-other}
 use Rattle.common.proofs.Tests.{by-test}
 use Rattle.common.proofs.Table.{is-tabulate, one-more}
 use Rattle.rounding.specs.Nearest.{nearest}
-use Rattle.rounding.proofs.HalfUp.{nearest-within-half}
+use Rattle.rounding.proofs.InForce.{nearest-within-half}
 use Rattle.money.specs.declared.ContributionPence.{ContributionPence}
 use Rattle.money.specs.Money.{contribution}
 use Rattle.rates.specs.Rates.{rateIn}

@@ -1,0 +1,14 @@
+-- The rule in force is within a half of the quotient, and monotone in it. Callers use these two laws and what follows from them; nothing
+-- above this crate opens the rule but the proved figures.
+-- Assumes nothing.
+use Rattle.rounding.specs.Nearest.{nearest}
+use Rattle.rounding.specs.Rounding.{WithinHalf, Monotone}
+use Rattle.rounding.proofs.HalfUp.{half-up-within-half, half-up-monotone}
+
+pub nearest-within-half : WithinHalf nearest
+unfolding nearest
+nearest-within-half = half-up-within-half
+
+pub nearest-monotone : Monotone nearest
+unfolding nearest
+nearest-monotone = half-up-monotone

@@ -1,0 +1,37 @@
+-- Document 01, "What each operation gives", Quote: the refusals 5 and 6 in the words of the print rules. proofs/Printed.antt proves them.
+-- Assumes nothing.
+use mathlib.Core.Logic.{_⊎_}
+use mathlib.Core.Path.{_≡_}
+use Prim.Native.Nat.{ℕ, _+_, _<_}
+use Rattle.rates.specs.Rates.{Printed, LumpPrinted}
+use Rattle.terms.specs.declared.Terms.{Terms}
+use Rattle.terms.specs.Rules.{refusalOf}
+
+-- the whole pension ages that are needed: the only or lower one, and with odd months the upper
+abbrev pub Needed : Terms → ℕ → Type 0
+Needed t pensionAge = (pensionAge ≡ t .years) ⊎ ((pensionAge ≡ t .years + 1) × (t .months ≡ 0 → ⊥))
+
+-- what is printed for the terms at a whole pension age: a lump sum, and a monthly rate
+abbrev pub LumpThere : Terms → ℕ → Type 0
+LumpThere t pensionAge = LumpPrinted (t .option) pensionAge (t .age)
+
+abbrev pub MonthlyThere : Terms → ℕ → Type 0
+MonthlyThere t pensionAge = Printed (t .option) pensionAge (t .age) (t .term)
+
+-- 5: the lump sum at a needed pension age, or the monthly rate of the only or lower one, is not printed
+abbrev pub NoRate : Terms → Type 0
+NoRate t =
+    ((t .term ≡ 0) × ((p : ℕ) × (Needed t p × (LumpThere t p → ⊥))))
+    ⊎ ((0 < t .term) × (MonthlyThere t (t .years) → ⊥))
+
+-- 6: the monthly rate of the lower pension age is printed, and that of the upper, which odd months need, is not
+abbrev pub NoUpperRate : Terms → Type 0
+NoUpperRate t =
+    (0 < t .term) × (MonthlyThere t (t .years) × ((t .months ≡ 0 → ⊥) × (MonthlyThere t (t .years + 1) → ⊥)))
+
+-- where 1 to 4 pass, 5 and 6 are given just there
+pub record RatesTold (t : Terms) (existing : ℕ) : Type 0 where
+  pub five : refusalOf t existing ≡ 5 → NoRate t
+  pub just-five : NoRate t → refusalOf t existing ≡ 5
+  pub six : refusalOf t existing ≡ 6 → NoUpperRate t
+  pub just-six : NoUpperRate t → refusalOf t existing ≡ 6
