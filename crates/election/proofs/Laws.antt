@@ -15,7 +15,7 @@ use Rattle.terms.specs.declared.Terms.{Terms}
 use Rattle.election.specs.declared.Priced.{Priced}
 use Rattle.terms.specs.Rate.{tableRate}
 use Rattle.terms.specs.Rules.{wrongOption, wrongPensionAge, wrongTerm, wrongAmount, aboveCap, refusalOf}
-use Rattle.terms.proofs.Laws.{terms-pass, price-pass, none-refuses, lower-rate, upper-rate}
+use Rattle.terms.proofs.Laws.{terms-rules-pass, price-rules-pass, none-refuses, lower-rate, upper-rate}
 use Rattle.election.specs.Price.{contributionAt, contributionIn, contributionOf, refused, accepted, pricedOf}
 use Rattle.election.specs.Told.{PensionAgeIn, Accepted}
 use Rattle.election.proofs.Rates.{table-rate-most}
@@ -61,8 +61,8 @@ pub accepted-facts : (t : Terms) (existing : ℕ) → refusalOf t existing ≡ 0
 unfolding wrongTerm wrongAmount aboveCap
 accepted-facts t existing e =
     let none = none-refuses t existing e in
-    let terms = terms-pass t (none .0) in
-    let price = price-pass t existing (none .1) in
+    let terms = terms-rules-pass t (none .0) in
+    let price = price-rules-pass t existing (none .1) in
     let amount = or-false (ltb (t .amount) stepPounds) (not (eqb (t .amount % stepPounds) 0)) (price .amount) in
     let even : t .amount % stepPounds ≡ 0 = eqb-true (t .amount % stepPounds) 0 (not-false _ (amount .1)) in
     let option = option-in t (terms .option) in

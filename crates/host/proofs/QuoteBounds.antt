@@ -1,17 +1,17 @@
 -- How large the numbers of a quote can be.
 -- Assumes nothing.
-use mathlib.Core.Path.{_≡_}
-use Prim.Native.Nat.{ℕ, _≤_, _<_}
+use Prim.Native.Nat.{ℕ, _≤_}
 use native.Mathlib.Omega.{arith}
-use borrow.Author.Tests.{eqb-true, eqb-false, leb-false}
+use borrow.Author.Tests.{eqb-true}
 use lib.Dec.{eqb, leb}
 use Rattle.common.proofs.Tests.{by-test}
-use Rattle.common.proofs.Choice.{either, not-first}
+use Rattle.common.proofs.Choice.{either}
 use Rattle.terms.specs.declared.Terms.{Terms}
 use Rattle.terms.specs.Rules.{refusalOf}
 use Rattle.terms.proofs.Laws.{refusal-most}
 use Rattle.election.proofs.Laws.{accepted-facts, contribution-most}
 use Rattle.quotes.specs.Quote.{QuoteNumbers, quoteRefusal, quoteOf}
+use Rattle.quotes.proofs.Answers.{quote-passes}
 
 -- no number of a quote is larger
 pub record QuoteBounds (n : QuoteNumbers) : Type 0 where
@@ -27,21 +27,12 @@ module _ (t : Terms) (existing last : ℕ) where
       (either (λ (n : ℕ). n ≤ 9) (leb 999999 last) (omega arith) (omega arith))
       (omega (arith, refusal-most t existing))
 
-  made : quoteRefusal t existing last ≡ 0 → (refusalOf t existing ≡ 0) × (last < 999999)
-  unfolding quoteRefusal
-  made z =
-      by-test (eqb (refusalOf t existing) 0)
-      (λ e.
-      let last-passed = not-first (λ (n : ℕ). n ≡ 0) (leb 999999 last) 9 0 (λ nine. omega arith) (rw e at z) in
-      (eqb-true _ _ e, leb-false _ _ (last-passed .0)))
-      (λ e. absurd (eqb-false _ _ e (rw e at z)))
-
   pub quote-bounds : QuoteBounds (quoteOf t existing last)
   unfolding quoteOf
   quote-bounds =
       by-test (eqb (quoteRefusal t existing last) 0)
       (λ e.
-      let pass = made (eqb-true _ _ e) in
+      let pass = quote-passes t existing last (eqb-true _ _ e) in
       rw e
       record {
         refusal-most = omega arith;

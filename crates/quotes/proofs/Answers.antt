@@ -1,11 +1,13 @@
--- What is quoted has a contribution of a penny or more, so its numbers are never those of a refusal.
+-- What holds where nothing refuses a quote: its terms pass and a number is left. What is quoted has a contribution of a penny or more, so its
+-- numbers are never those of a refusal.
 -- Assumes nothing.
 use mathlib.Core.Path.{_≡_, refl, sym, _∙_}
-use Prim.Native.Nat.{ℕ, _≤_}
-use borrow.Author.Tests.{eq-eqb}
+use Prim.Native.Nat.{ℕ, _≤_, _<_}
+use native.Mathlib.Omega.{arith}
+use borrow.Author.Tests.{eq-eqb, leb-false}
 use lib.Dec.{leb}
 use Rattle.common.specs.Choice.{pick}
-use Rattle.common.proofs.Choice.{chosen-number, both-pass}
+use Rattle.common.proofs.Choice.{not-first, chosen-number, both-pass}
 use Rattle.terms.specs.declared.Terms.{Terms}
 use Rattle.terms.specs.Rules.{refusalOf}
 use Rattle.election.proofs.Laws.{accepted-facts, contribution-least}
@@ -16,12 +18,15 @@ module _ (t : Terms) (existing last : ℕ) where
   unfolding quoteOf
   quote-refusal = chosen-number (λ (n : QuoteNumbers). n .refusal) (quoteRefusal t existing last) _ _ refl refl
 
-  terms-pass : quoteRefusal t existing last ≡ 0 → refusalOf t existing ≡ 0
+  pub quote-passes : quoteRefusal t existing last ≡ 0 → (refusalOf t existing ≡ 0) × (last < 999999)
   unfolding quoteRefusal
-  terms-pass z = both-pass (refusalOf t existing) (pick (leb 999999 last) 9 0) z .0
+  quote-passes z =
+      let both = both-pass (refusalOf t existing) (pick (leb 999999 last) 9 0) z in
+      let number = not-first (λ (n : ℕ). n ≡ 0) (leb 999999 last) 9 0 (λ nine. omega arith) (both .1) in
+      (both .0, leb-false _ _ (number .0))
 
   pub quote-contribution-least : quoteOf t existing last .refusal ≡ 0 → 1 ≤ quoteOf t existing last .contribution
   unfolding quoteOf
   quote-contribution-least z =
       let none : quoteRefusal t existing last ≡ 0 = sym quote-refusal ∙ z in
-      rw (eq-eqb (quoteRefusal t existing last) 0 none) (contribution-least t existing (accepted-facts t existing (terms-pass none)))
+      rw (eq-eqb (quoteRefusal t existing last) 0 none) (contribution-least t existing (accepted-facts t existing (quote-passes none .0)))

@@ -84,10 +84,7 @@ pub fn check_record(c: Contract) -> RecordCheck
     }
     match settlement::settle(c.terms, &marks[..count]) {
         Settlement::Refused { .. } => found_bad(),
-        Settlement::Settled { credit, .. } => RecordCheck {
-            bad: false,
-            credit,
-        },
+        Settlement::Settled { credit, .. } => RecordCheck { bad: false, credit },
     }
 }
 

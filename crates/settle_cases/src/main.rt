@@ -17,7 +17,7 @@ enum Next {
 }
 
 // After what was settled of a chunk is printed: the line that is open, and whether to read on.
-struct Printed {
+struct Handed {
     after: OpenLine,
     next: Next,
 }
@@ -30,7 +30,7 @@ struct Turn {
 }
 
 // Settles what was read and prints it, as often as the buffer fills.
-fn print_settled(before: OpenLine, chunk: &[u8], out: &mut [u8]) -> Printed
+fn print_settled(before: OpenLine, chunk: &[u8], out: &mut [u8]) -> Handed
     requires { ⌜ 46 ≤ length (now out) ⌝ }
     requires { ⌜ 0 < length (now chunk) ⌝ }
     ensures { λ r. ⌜ HandedOn before (now (chunk .entry)) (r .after) (r .next) ⌝ }
@@ -43,13 +43,13 @@ fn print_settled(before: OpenLine, chunk: &[u8], out: &mut [u8]) -> Printed
         after = done.after;
         at += done.taken;
         if !io::write_all(STDOUT_FILENO, &out[..wrote]) {
-            return Printed {
+            return Handed {
                 after,
                 next: Next::WriteFailed,
             };
         }
     }
-    Printed {
+    Handed {
         after,
         next: Next::ReadOn,
     }

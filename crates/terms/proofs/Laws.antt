@@ -21,9 +21,9 @@ passed : (b : Bool) (n rest : ℕ) → 0 < n → pick b n rest ≡ 0 → (b ≡ 
 passed b n rest p = not-first (λ x. x ≡ 0) b n rest (λ z. omega arith)
 
 -- the rules before the rates pass
-pub terms-pass : (t : Terms) → termsRefusal t ≡ 0 → TermsPass t
+pub terms-rules-pass : (t : Terms) → termsRefusal t ≡ 0 → TermsPass t
 unfolding termsRefusal
-terms-pass t z =
+terms-rules-pass t z =
     let r1 = passed (wrongOption t) 1 _ (omega arith) z in
     let r2 = passed (wrongPensionAge t) 2 _ (omega arith) (r1 .1) in
     let r3 = passed (wrongTerm t) 3 _ (omega arith) (r2 .1) in
@@ -37,9 +37,9 @@ pub record PricePass (t : Terms) (existing : ℕ) : Type 0 where
   pub amount : wrongAmount t ≡ false
   pub cap : aboveCap t existing ≡ false
 
-pub price-pass : (t : Terms) (existing : ℕ) → priceRefusal t existing ≡ 0 → PricePass t existing
+pub price-rules-pass : (t : Terms) (existing : ℕ) → priceRefusal t existing ≡ 0 → PricePass t existing
 unfolding priceRefusal
-price-pass t existing z =
+price-rules-pass t existing z =
     let r5 = passed (noRate t) 5 _ (omega arith) z in
     let r6 = passed (noUpperRate t) 6 _ (omega arith) (r5 .1) in
     let r7 = passed (wrongAmount t) 7 _ (omega arith) (r6 .1) in
@@ -48,13 +48,13 @@ price-pass t existing z =
 
 -- the two halves of the chain
 module _ (t : Terms) (existing : ℕ) where
-  pub by-terms : (termsRefusal t ≡ 0 → ⊥) → refusalOf t existing ≡ termsRefusal t
+  pub terms-decide : (termsRefusal t ≡ 0 → ⊥) → refusalOf t existing ≡ termsRefusal t
   unfolding refusalOf
-  by-terms = first-refuses (termsRefusal t) (priceRefusal t existing)
+  terms-decide = first-refuses (termsRefusal t) (priceRefusal t existing)
 
-  pub by-price : termsRefusal t ≡ 0 → refusalOf t existing ≡ priceRefusal t existing
+  pub price-decides : termsRefusal t ≡ 0 → refusalOf t existing ≡ priceRefusal t existing
   unfolding refusalOf
-  by-price = first-passes (termsRefusal t) (priceRefusal t existing)
+  price-decides = first-passes (termsRefusal t) (priceRefusal t existing)
 
   pub none-refuses : refusalOf t existing ≡ 0 → (termsRefusal t ≡ 0) × (priceRefusal t existing ≡ 0)
   unfolding refusalOf

@@ -14,8 +14,8 @@ use Rattle.rates.proofs.Laws.{printed, shown, lump-printed, lump-shown}
 use Rattle.terms.specs.declared.Terms.{Terms}
 use Rattle.terms.specs.Rate.{tableRate}
 use Rattle.terms.specs.Rules.{missingUpper, noRate, noUpperRate, wrongAmount, aboveCap, termsRefusal, priceRefusal, refusalOf}
-use Rattle.terms.specs.Printed.{LumpThere, MonthlyThere, NoRate, NoUpperRate, RatesTold}
-use Rattle.terms.proofs.Laws.{by-price, lump-rate, monthly-rate, lower-rate}
+use Rattle.terms.specs.Printed.{LumpThere, MonthlyThere, LacksRate, LacksUpperRate, RatesTold}
+use Rattle.terms.proofs.Laws.{price-decides, lump-rate, monthly-rate, lower-rate}
 
 -- a number that cannot be above 0 is 0
 none : (n : ℕ) → (0 < n → ⊥) → n ≡ 0
@@ -52,7 +52,7 @@ module _ (t : Terms) where
   missing-upper : (t .months ≡ 0 → ⊥) → upper ≡ 0 → missingUpper t upper ≡ true
   missing-upper odd e = rw (ne-eqb (t .months) 0 odd, eq-eqb upper 0 e)
 
-  no-rate-says : noRate t ≡ true → NoRate t
+  no-rate-says : noRate t ≡ true → LacksRate t
   unfolding noRate
   no-rate-says e =
       by-test (eqb (t .term) 0)
@@ -71,7 +71,7 @@ module _ (t : Terms) where
       let m : 0 < t .term = omega (arith, eqb-false (t .term) 0 monthly) in
       inr (m, monthly-none t (t .years) m (eqb-true _ 0 (rw monthly at e))))
 
-  says-no-rate : NoRate t → noRate t ≡ true
+  says-no-rate : LacksRate t → noRate t ≡ true
   unfolding noRate
   says-no-rate =
       ⊎-elim
@@ -85,7 +85,7 @@ module _ (t : Terms) where
       (l .1 .1 .0)))
       (λ m. rw (ne-eqb (t .term) 0 (λ z. omega (arith, m .0)), eq-eqb (tableRate t (t .years)) 0 (none-monthly t (t .years) (m .0) (m .1))))
 
-  no-upper-says : noRate t ≡ false → noUpperRate t ≡ true → NoUpperRate t
+  no-upper-says : noRate t ≡ false → noUpperRate t ≡ true → LacksUpperRate t
   unfolding noUpperRate
   no-upper-says rate e =
       by-test (eqb (t .term) 0) (λ lump. never (rw lump at e))
@@ -95,11 +95,11 @@ module _ (t : Terms) where
       let lower = printed (t .option) (t .years) (t .age) (t .term) (rw (monthly-rate t (t .years) m) at (lower-rate t rate)) in
       (m, (lower, (u .0, monthly-none t (t .years + 1) m (u .1)))))
 
-  says-lower : NoUpperRate t → noRate t ≡ false
+  says-lower : LacksUpperRate t → noRate t ≡ false
   unfolding noRate
   says-lower n = rw (ne-eqb (t .term) 0 (λ z. omega (arith, n .0)), some-monthly t (t .years) (n .0) (n .1 .0))
 
-  says-no-upper : NoUpperRate t → noUpperRate t ≡ true
+  says-no-upper : LacksUpperRate t → noUpperRate t ≡ true
   unfolding noUpperRate
   says-no-upper n =
       rw (ne-eqb (t .term) 0 (λ z. omega (arith, n .0)), missing-upper (n .1 .1 .0) (none-monthly t (t .years + 1) (n .0) (n .1 .1 .1)))
@@ -126,7 +126,7 @@ module _ (t : Terms) (existing : ℕ) where
   pub rates-told : termsRefusal t ≡ 0 → RatesTold t existing
   unfolding priceRefusal
   rates-told pass =
-      let whole = by-price t existing pass in
+      let whole = price-decides t existing pass in
       record {
         five = λ e. no-rate-says t (refuses-just (noRate t) 5 _ five-other (sym whole ∙ e));
         just-five = λ n. whole ∙ rw (says-no-rate t n);

@@ -19,19 +19,19 @@ abbrev pub MonthlyThere : Terms → ℕ → Type 0
 MonthlyThere t pensionAge = Printed (t .option) pensionAge (t .age) (t .term)
 
 -- 5: the lump sum at a needed pension age, or the monthly rate of the only or lower one, is not printed
-abbrev pub NoRate : Terms → Type 0
-NoRate t =
+abbrev pub LacksRate : Terms → Type 0
+LacksRate t =
     ((t .term ≡ 0) × ((p : ℕ) × (Needed t p × (LumpThere t p → ⊥))))
     ⊎ ((0 < t .term) × (MonthlyThere t (t .years) → ⊥))
 
 -- 6: the monthly rate of the lower pension age is printed, and that of the upper, which odd months need, is not
-abbrev pub NoUpperRate : Terms → Type 0
-NoUpperRate t =
+abbrev pub LacksUpperRate : Terms → Type 0
+LacksUpperRate t =
     (0 < t .term) × (MonthlyThere t (t .years) × ((t .months ≡ 0 → ⊥) × (MonthlyThere t (t .years + 1) → ⊥)))
 
 -- where 1 to 4 pass, 5 and 6 are given just there
 pub record RatesTold (t : Terms) (existing : ℕ) : Type 0 where
-  pub five : refusalOf t existing ≡ 5 → NoRate t
-  pub just-five : NoRate t → refusalOf t existing ≡ 5
-  pub six : refusalOf t existing ≡ 6 → NoUpperRate t
-  pub just-six : NoUpperRate t → refusalOf t existing ≡ 6
+  pub five : refusalOf t existing ≡ 5 → LacksRate t
+  pub just-five : LacksRate t → refusalOf t existing ≡ 5
+  pub six : refusalOf t existing ≡ 6 → LacksUpperRate t
+  pub just-six : LacksUpperRate t → refusalOf t existing ≡ 6

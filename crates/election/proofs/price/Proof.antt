@@ -10,7 +10,7 @@ use Rattle.election.proofs.Rates.{lower-found, upper-found, found-upper
 use Rattle.election.specs.Price.{contributionAt, contributionIn, contributionOf, refused, pricedOf}
 use Rattle.terms.specs.Rate.{tableRate, ratesAt, upperRatesAt, foundIn}
 use Rattle.terms.specs.Rules.{priceRefusal, refusalOf}
-use Rattle.terms.proofs.Laws.{terms-pass, by-terms, by-price}
+use Rattle.terms.proofs.Laws.{terms-rules-pass, terms-decide, price-decides}
 use Rattle.election.specs.declared.Priced.{Priced}
 use Rattle.terms.specs.declared.Terms.{Terms}
 use Rattle.money.specs.Money.{contribution}
@@ -51,7 +51,7 @@ module _ (c : tie.After-found-in2) where
   refusal-is : (existing n : ℕ) → n ≡ priceRefusal terms-of existing → n ≡ refusalOf terms-of existing
   refusal-is existing n e =
       let early = c .before .before .before .before .before in
-      e ∙ sym (by-price terms-of existing (sym (early .before .terms-refusal .ensures) ∙ early .if1 .left))
+      e ∙ sym (price-decides terms-of existing (sym (early .before .terms-refusal .ensures) ∙ early .if1 .left))
 
 terms-refusal-requires : tie.Need-terms-refusal-requires
 terms-refusal-requires c κs = search needs
@@ -63,11 +63,11 @@ returns : tie.Need-returns
 returns c =
     let told = c .before .before .terms-refusal .ensures in
     let some = c .before .if1 .taken in
-    c .refuse .ensures ∙ first _ _ _ (told ∙ sym (by-terms _ _ (λ z. some (told ∙ z)))) some
+    c .refuse .ensures ∙ first _ _ _ (told ∙ sym (terms-decide _ _ (λ z. some (told ∙ z)))) some
 
 add-next : tie.Need-add-next
 add-next c =
-    let pass = terms-pass _ (sym (c .before .before .terms-refusal .ensures) ∙ c .before .if1 .left) in
+    let pass = terms-rules-pass _ (sym (c .before .before .terms-refusal .ensures) ∙ c .before .if1 .left) in
     omega (arith, pension-age-in _ (pass .pension-age))
 
 rates-at-requires : tie.Need-rates-at-requires

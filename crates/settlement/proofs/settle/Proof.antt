@@ -35,8 +35,8 @@ near : (t : Terms) (ms : List ℕ) {n : SettleNumbers} {b : Bool} → n ≡ sett
 near t ms is says =
     (is, (subst (Demand3 t ms) (sym is) (demand-3 t ms), (subst (MarksTold t ms) (sym is) (marks-told t ms), says ∙ ap (λ (n : SettleNumbers). ltb 0 (n .refusal)) is)))
 
-above-0 : (n : ℕ) → (n ≡ 0 → ⊥) → true ≡ ltb 0 n
-above-0 n some = sym (lt-ltb 0 n (omega (arith, some)))
+refusal-told : (n : ℕ) → (n ≡ 0 → ⊥) → true ≡ ltb 0 n
+refusal-told n some = sym (lt-ltb 0 n (omega (arith, some)))
 
 module _ (t : Terms) (ms : List ℕ) {e : Examined} (is : e ≡ examinedOf t ms) where
   refuses : (e .refusal ≡ 0 → ⊥) → refusedNumbers (e .refusal) (e .place) ≡ settleOf t ms
@@ -61,7 +61,7 @@ examine-requires : tie.Need-examine-requires
 examine-requires c κs = search needs
 
 returns : tie.Need-returns
-returns c = near _ _ (refuses _ _ (c .before .before .examine .ensures) (c .if1 .taken)) (above-0 _ (c .if1 .taken))
+returns c = near _ _ (refuses _ _ (c .before .before .examine .ensures) (c .if1 .taken)) (refusal-told _ (c .if1 .taken))
 
 credit-at-status-requires : tie.Need-credit-at-status-requires
 credit-at-status-requires c κs =
