@@ -63,16 +63,22 @@ pub fn after_mark(e: Earned, years: [u32; 21], mark: u8) -> Earned
     }
 }
 
-// The credit over the unbroken paid runs of the marks.
+// The credit over the unbroken paid runs of the marks, run by run: the value at the end less the value at the start.
 pub fn credit_over(years: [u32; 21], marks: &[u8]) -> PensionPence
     requires { ⌜ length (now marks) < 2 ^ 31 ⌝ }
     ensures { λ r. ⌜ r ≡ pension (creditOver nearest years (now (marks .entry))) ⌝ }
 {
-    let mut e = nothing_yet();
+    let mut sum = PensionPence::none();
     let mut i = 0;
     while i < marks.len() {
-        e = after_mark(e, years, marks[i]);
-        i += 1;
+        if marks[i] == 1 {
+            let end = marks::run_end(marks, i);
+            let before = years::month_value(years, i as u32);
+            sum = sum.plus(years::month_value(years, end as u32).less(before));
+            i = end;
+        } else {
+            i += 1;
+        }
     }
-    credit_at(e, years)
+    sum
 }

@@ -9,7 +9,7 @@ use native.Mathlib.Omega.{arith}
 use lib.ListN.{length}
 use Rattle.money.specs.Limits.{unit}
 use Rattle.years.specs.Years.{Purchase, ownContribution, yearCredit}
-use Rattle.years.specs.SoundRates.{Falling}
+use Rattle.years.specs.Published.{Falling}
 use Rattle.credit.specs.Months.{addedFrom}
 use Rattle.years.proofs.Years.{year-none, year-within}
 use Rattle.distance.specs.Exact.{exactYear, exactMonth, exactFrom}

@@ -11,7 +11,7 @@ use lib.ListN.{length, List·getD-eq-default}
 use Rattle.common.proofs.Tests.{by-test}
 use Rattle.rounding.specs.Rounding.{Monotone}
 use Rattle.years.specs.Years.{Purchase, yearCredits, monthValue}
-use Rattle.years.specs.SoundRates.{Falling}
+use Rattle.years.specs.Published.{Falling}
 use Rattle.credit.specs.Runs.{Run, paid, runsFrom, runFrom, runsIn, startsAfter, runCount}
 use Rattle.credit.proofs.Unbroken.{runs-unbroken}
 use Rattle.distance.proofs.Months.{month-rises}

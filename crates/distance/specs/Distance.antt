@@ -7,7 +7,7 @@ use lib.Dec.{eqb}
 use Rattle.common.specs.Choice.{pick}
 use Rattle.rounding.specs.Nearest.{combineBy}
 use Rattle.years.specs.Years.{Purchase}
-use Rattle.years.specs.SoundRates.{Falling}
+use Rattle.years.specs.Published.{Falling}
 use Rattle.credit.specs.Credit.{creditIn}
 use Rattle.distance.specs.Fraction.{Fraction}
 use Rattle.distance.specs.Exact.{exactCredit, exactBlend}

@@ -1,24 +1,24 @@
--- What callers use of an election's refusal and price, without opening either.
+-- What callers use of an election's refusal, rates and cost, without opening them.
 -- Assumes nothing.
 use mathlib.Core.Bool.{Bool, true, false, not, _||_}
-use mathlib.Core.Path.{_≡_, refl, ap, _∙_}
+use mathlib.Core.Path.{_≡_, refl, sym}
 use Prim.Native.Nat.{ℕ, _+_, _%_, _≤_, _<_}
 use native.Mathlib.Nat.{mul-le-mul, mul-pos}
 use native.Mathlib.Omega.{arith}
 use lib.Dec.{ltb, eqb}
-use borrow.Author.Tests.{ltb-false, eqb-true, eq-eqb, ne-eqb, not-false}
-use Rattle.common.proofs.Choice.{chosen-number}
+use borrow.Author.Tests.{ltb-false, eqb-true, not-false}
+use Rattle.common.proofs.Choice.{either}
 use Rattle.common.proofs.Tests.{never, or-false}
 use Rattle.rounding.proofs.Laws.{combine-most, combine-least}
 use Rattle.money.specs.Limits.{stepPounds}
+use Rattle.rates.proofs.Cells.{rate-none}
+use Rattle.rates.proofs.Laws.{rate-most, lump-none, lump-most}
 use Rattle.terms.specs.declared.Terms.{Terms}
-use Rattle.election.specs.declared.Priced.{Priced}
-use Rattle.terms.specs.Rate.{tableRate}
+use Rattle.terms.specs.Rate.{rateFor, tableRate, upperRate}
 use Rattle.terms.specs.Rules.{wrongOption, wrongPensionAge, wrongTerm, wrongAmount, aboveCap, refusalOf}
 use Rattle.terms.proofs.Laws.{terms-rules-pass, price-rules-pass, none-refuses, lower-rate, upper-rate}
-use Rattle.election.specs.Price.{contributionAt, contributionIn, contributionOf, refused, accepted, pricedOf}
+use Rattle.election.specs.Price.{contributionAt, contributionIn, contributionOf}
 use Rattle.election.specs.Told.{PensionAgeIn, Accepted}
-use Rattle.election.proofs.Rates.{table-rate-most}
 
 pub pension-age-in : (t : Terms) → wrongPensionAge t ≡ false → PensionAgeIn t
 unfolding wrongPensionAge
@@ -26,26 +26,6 @@ pension-age-in t e =
     let months = or-false _ _ e in
     let years = or-false _ _ (months .1) in
     record { months-high = ltb-false _ _ (months .0); years-low = ltb-false _ _ (years .0); age-high = ltb-false _ _ (years .1) }
-
-module _ (t : Terms) (existing : ℕ) where
-  pub priced-refused : (refusalOf t existing ≡ 0 → ⊥) → pricedOf t existing ≡ refused (refusalOf t existing)
-  unfolding pricedOf
-  priced-refused h = rw (ne-eqb _ _ h)
-
-  pub priced-accepted : refusalOf t existing ≡ 0 → pricedOf t existing ≡ accepted t
-  unfolding pricedOf
-  priced-accepted h = rw (eq-eqb _ _ h)
-
-  pub priced-refusal : pricedOf t existing .refusal ≡ refusalOf t existing
-  unfolding pricedOf
-  priced-refusal = chosen-number (λ (p : Priced). p .refusal) (refusalOf t existing) (accepted t) (refused (refusalOf t existing)) refl refl
-
-  -- the same of an answer that is the defined one
-  pub priced-told : {p : Priced} → p ≡ pricedOf t existing → p .refusal ≡ refusalOf t existing
-  priced-told e = ap (λ (p : Priced). p .refusal) e ∙ priced-refusal
-
-  pub priced-contribution : refusalOf t existing ≡ 0 → pricedOf t existing .contribution .0 ≡ contributionOf t
-  priced-contribution h = rw (priced-accepted h)
 
 option-in : (t : Terms) → wrongOption t ≡ false → (1 ≤ t .option) × (t .option ≤ 2)
 unfolding wrongOption
@@ -77,6 +57,23 @@ accepted-facts t existing e =
       whole = omega arith;
       under-cap = ltb-false _ _ (price .cap);
     }
+
+-- no rate is above the greatest lump sum for £250
+pub table-rate-most : (t : Terms) (p : ℕ) → tableRate t p ≤ 456000
+unfolding tableRate rateFor
+table-rate-most t p =
+    either (λ x. x ≤ 456000) (eqb (t .term) 0) (lump-most (t .option) p (t .age)) (omega (arith, rate-most (t .option) p (t .age) (t .term)))
+
+-- and there is none for a pension age above 68
+pub rate-past : (t : Terms) (p : ℕ) → 68 < p → tableRate t p ≡ 0
+unfolding tableRate rateFor
+rate-past t p past =
+    either (λ x. x ≡ 0) (eqb (t .term) 0) (lump-none (t .option) p (t .age) (λ r. omega arith))
+    (sym (rate-none (t .option) p (t .age) (t .term) (λ known. omega arith)))
+
+pub upper-rate-most : (t : Terms) → upperRate t ≤ 456000
+unfolding upperRate
+upper-rate-most t = either (λ x. x ≤ 456000) (eqb (t .months) 0) (omega arith) (table-rate-most t (t .years + 1))
 
 -- the dearest election: twenty-six times £250 at the greatest rate
 pub contribution-most : (t : Terms) (existing : ℕ) → Accepted t existing → contributionOf t ≤ 11856000

@@ -1,15 +1,10 @@
--- What the steps on the way to a price promise each other, and what holds of accepted terms.
+-- What holds of accepted terms.
 -- Assumes nothing.
 use mathlib.Core.Path.{_≡_}
 use Prim.Native.Nat.{ℕ, _+_, _*_, _/_, _≤_, _<_}
 use Rattle.money.specs.Limits.{stepPounds, capPence}
 use Rattle.terms.specs.declared.Terms.{Terms}
 use Rattle.terms.specs.Rate.{tableRate}
-
--- the rates of the needed tables
-pub record Found (t : Terms) (lower upper : ℕ) : Type 0 where
-  pub lower-is : lower ≡ tableRate t (t .years)
-  pub upper-is : (t .months ≡ 0 → ⊥) → upper ≡ tableRate t (t .years + 1)
 
 -- the pension age is from 65 years 0 months to 68 years 0 months
 pub record PensionAgeIn (t : Terms) : Type 0 where

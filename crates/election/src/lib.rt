@@ -1,23 +1,52 @@
-// What an election costs, or the first rule that refuses its terms.
+// The rates that the terms of an election go by, the first rule that refuses them, and what they cost. A caller asks for these in this
+// order; each part is small enough to be inlined there.
 ghost use mathlib.Core.Path.{_≡_};
-ghost use Prim.Native.Nat.{_≤_, _<_, _^_};
-ghost use Rattle.rounding.specs.Nearest.{combine};
+ghost use Prim.Native.Nat.{_≤_};
 ghost use Rattle.money.specs.Money.{contribution};
 ghost use Rattle.money.specs.Limits.{capPounds};
-ghost use Rattle.terms.specs.Rate.{ratesAt, upperRatesAt, foundIn};
-ghost use Rattle.terms.specs.Rules.{missingUpper, wrongAmount, aboveCap, priceRefusal};
-ghost use Rattle.election.specs.Price.{contributionAt, refused, pricedOf};
-ghost use Rattle.election.specs.Told.{Found};
+ghost use Rattle.terms.specs.Rate.{rateFor, upperRate};
+ghost use Rattle.terms.specs.Rules.{missingUpper, wrongAmount, aboveCap, priceRefusal, refusalOf};
+ghost use Rattle.election.specs.Price.{contributionOf, ratesOf};
 use money::ContributionPence;
 use money::PensionPence;
 use terms::Terms;
 
-// The refusal, or 0 with the contribution and the monthly rates of the only or lower table and of the upper.
-pub struct Priced {
-    pub refusal: u32,
-    pub contribution: ContributionPence,
-    pub lower: [u32; 20],
-    pub upper: [u32; 20],
+// The rate of the only or lower pension age, and that of the upper, which only odd months need; 0 where there is none.
+pub struct TableRates {
+    pub lower: u32,
+    pub upper: u32,
+}
+
+// The rate of a whole pension age: of Table S for a lump sum, else of the monthly table.
+fn rate_at(option: u32, pension_age: u32, age: u32, term: u32) -> u32
+    ensures { λ r. ⌜ r ≡ rateFor option «pension_age» age term ⌝ }
+{
+    if term == 0 {
+        return rates::lump_sum_rate(option, pension_age, age);
+    }
+    monthly::monthly_rate(option, pension_age, age, term)
+}
+
+// No pension age above 68 has a rate, so none is looked up.
+fn upper_rate(t: Terms) -> u32
+    ensures { λ r. ⌜ r ≡ upperRate t ⌝ }
+{
+    if t.months == 0 {
+        return 0;
+    }
+    if 67 < t.years {
+        return 0;
+    }
+    rate_at(t.option, t.years + 1, t.age, t.term)
+}
+
+// The rates that terms go by, whatever the terms.
+pub fn rates_of(t: Terms) -> TableRates
+    ensures { λ r. ⌜ r ≡ ratesOf t ⌝ }
+{
+    let lower = rate_at(t.option, t.years, t.age, t.term);
+    let upper = upper_rate(t);
+    TableRates { lower, upper }
 }
 
 fn wrong_amount(t: Terms) -> bool
@@ -53,14 +82,14 @@ fn above_cap(t: Terms, existing: PensionPence) -> bool
 
 // The rules on rates, amount and cap, 5 to 8: the first that refuses, else 0. A lump sum without a rate at the upper pension age is 5,
 // a monthly contract 6.
-fn price_refusal(t: Terms, lower: u32, upper: u32, existing: PensionPence) -> u32
-    requires { ⌜ Found t lower upper ⌝ }
+fn price_refusal(t: Terms, rates: TableRates, existing: PensionPence) -> u32
+    requires { ⌜ rates ≡ ratesOf t ⌝ }
     ensures { λ r. ⌜ r ≡ priceRefusal t (existing .0) ⌝ }
 {
-    if lower == 0 {
+    if rates.lower == 0 {
         return 5;
     }
-    if missing_upper(t, upper) {
+    if missing_upper(t, rates.upper) {
         if t.term == 0 {
             return 5;
         }
@@ -75,83 +104,24 @@ fn price_refusal(t: Terms, lower: u32, upper: u32, existing: PensionPence) -> u3
     0
 }
 
-// The monthly rates of a whole pension age.
-fn rates_at(t: Terms, pension_age: u32) -> [u32; 20]
-    ensures { λ r. ⌜ r ≡ ratesAt t «pension_age» ⌝ }
-{
-    if t.term == 0 {
-        return [0u32; 20];
-    }
-    let option = t.option;
-    match option {
-        1 => personal::monthly_row(pension_age, t.age),
-        2 => dependant::monthly_row(pension_age, t.age),
-        _ => [0u32; 20],
-    }
-}
-
-// The same of the upper table, which only odd months need.
-fn upper_rates_at(t: Terms, pension_age: u32) -> [u32; 20]
-    ensures { λ r. ⌜ r ≡ upperRatesAt t «pension_age» ⌝ }
-{
-    if t.months == 0 {
-        return [0u32; 20];
-    }
-    rates_at(t, pension_age)
-}
-
-// The rate of the term at a whole pension age, of its monthly rates; a lump sum has its own table.
-fn found_in(t: Terms, pension_age: u32, row: [u32; 20]) -> u32
-    ensures { λ r. ⌜ r ≡ foundIn t «pension_age» row ⌝ }
-{
-    if t.term == 0 {
-        return rates::lump_sum_rate(t.option, pension_age, t.age);
-    }
-    rates::rate_in(row, t.term)
-}
-
-// What terms cost at rates that they have.
-fn cost(t: Terms, lower: u32, upper: u32) -> ContributionPence
-    requires { ⌜ (t .amount ≤ capPounds) × (lower < 2 ^ 24) × (upper < 2 ^ 24) ⌝ }
-    ensures { λ r. ⌜ r ≡ contribution (combine (t .months) (contributionAt t lower) (contributionAt t upper)) ⌝ }
-{
-    let units = t.amount / money::STEP;
-    let own = ContributionPence::of_units(units, lower);
-    own.combine(ContributionPence::of_units(units, upper), t.months)
-}
-
-fn refuse(n: u32) -> Priced
-    ensures { λ r. ⌜ r ≡ refused n ⌝ }
-{
-    Priced {
-        refusal: n,
-        contribution: ContributionPence::none(),
-        lower: [0u32; 20],
-        upper: [0u32; 20],
-    }
-}
-
-// The first of the refusals 1 to 8, or the contribution and the rates that the credits go by.
-pub fn price(t: Terms, existing: PensionPence) -> Priced
-    ensures { λ r. ⌜ r ≡ pricedOf t (existing .0) ⌝ }
+// The first of the rules 1 to 8 that refuses terms with these rates, else 0.
+pub fn first_refusal(t: Terms, rates: TableRates, existing: PensionPence) -> u32
+    requires { ⌜ rates ≡ ratesOf t ⌝ }
+    ensures { λ r. ⌜ r ≡ refusalOf t (existing .0) ⌝ }
 {
     let early = terms::terms_refusal(t);
     if early != 0 {
-        return refuse(early);
+        return early;
     }
-    let next = t.years + 1;
-    let lower = rates_at(t, t.years);
-    let upper = upper_rates_at(t, next);
-    let lower_rate = found_in(t, t.years, lower);
-    let upper_rate = found_in(t, next, upper);
-    let late = price_refusal(t, lower_rate, upper_rate, existing);
-    if late != 0 {
-        return refuse(late);
-    }
-    Priced {
-        refusal: 0,
-        contribution: cost(t, lower_rate, upper_rate),
-        lower,
-        upper,
-    }
+    price_refusal(t, rates, existing)
+}
+
+// What terms cost whose amount the cap allows.
+pub fn cost(t: Terms, rates: TableRates) -> ContributionPence
+    requires { ⌜ (t .amount ≤ capPounds) × (rates ≡ ratesOf t) ⌝ }
+    ensures { λ r. ⌜ r ≡ contribution (contributionOf t) ⌝ }
+{
+    let units = t.amount / money::STEP;
+    let own = ContributionPence::of_units(units, rates.lower);
+    own.combine(ContributionPence::of_units(units, rates.upper), t.months)
 }

@@ -1,10 +1,9 @@
--- What a caller knows of an examination: whether it refuses, and of a monthly contract the rows of its tables.
+-- What a caller knows of an examination: whether it refuses, and of a monthly contract the rates that it goes by.
 -- Assumes nothing.
 use mathlib.Core.List.{List}
-use mathlib.Core.Path.{_≡_, sym, ap, _∙_}
-use Prim.Native.Nat.{ℕ, _+_, _<_}
+use mathlib.Core.Path.{_≡_, refl, sym, ap, _∙_}
+use Prim.Native.Nat.{ℕ, _<_}
 use Rattle.terms.specs.declared.Terms.{Terms}
-use Rattle.election.proofs.Rates.{monthly-rates, monthly-upper-rates}
 use Rattle.status.specs.Status.{statusOf}
 use Rattle.examination.specs.declared.Examined.{Examined}
 use Rattle.examination.specs.Examine.{settleRefusal, examinedOf, Monthly}
@@ -20,12 +19,6 @@ module _ (t : Terms) (ms : List ℕ) {e : Examined} (is : e ≡ examinedOf t ms)
   pub examined-status : settleRefusal t ms ≡ 0 → e .status ≡ statusOf (t .term) ms
   examined-status none = rw (is, examined-accepted t ms none)
 
-  pub examined-monthly : settleRefusal t ms ≡ 0 → 0 < t .term → Monthly t (e .lower) (e .upper)
+  pub examined-monthly : settleRefusal t ms ≡ 0 → 0 < t .term → Monthly t (e .rates)
   examined-monthly none years =
-      rw (is, examined-accepted t ms none)
-      (record {
-        accepted = accepted t ms none;
-        some-years = years;
-        lower-is = monthly-rates t (t .years) years;
-        upper-is = monthly-upper-rates t (t .years + 1) years;
-      })
+      rw (is, examined-accepted t ms none) (record { accepted = accepted t ms none; some-years = years; rates-are = refl })

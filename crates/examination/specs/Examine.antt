@@ -2,15 +2,14 @@
 -- Assumes nothing.
 use mathlib.Core.List.{List}
 use mathlib.Core.Path.{_≡_}
-use Prim.Native.Nat.{ℕ, _+_, _<_}
+use Prim.Native.Nat.{ℕ, _<_}
 use lib.Dec.{eqb}
 use Rattle.common.specs.Choice.{pick, firstOf}
 use Rattle.money.specs.Money.{contribution}
-use Rattle.rates.specs.Rates.{rowOf}
 use Rattle.terms.specs.declared.Terms.{Terms}
 use Rattle.terms.specs.Rules.{refusalOf}
-use Rattle.terms.specs.Rate.{noRates, ratesAt, upperRatesAt}
-use Rattle.election.specs.Price.{contributionOf}
+use Rattle.election.specs.declared.TableRates.{TableRates}
+use Rattle.election.specs.Price.{contributionOf, ratesOf}
 use Rattle.election.specs.Told.{Accepted}
 use Rattle.marks.specs.Counts.{paidMonths}
 use Rattle.marks.specs.Reading.{marksOf}
@@ -34,8 +33,7 @@ refusedExamined n place =
       contribution = contribution 0;
       status = 0;
       paid = 0;
-      lower = noRates;
-      upper = noRates;
+      rates = record { lower = 0; upper = 0 };
     }
 
 -- terms and marks that are not refused, with the rates that the credits go by
@@ -47,8 +45,7 @@ acceptedExamined t marks =
       contribution = contribution (contributionOf t);
       status = statusOf (t .term) marks;
       paid = paidMonths marks;
-      lower = ratesAt t (t .years);
-      upper = upperRatesAt t (t .years + 1);
+      rates = ratesOf t;
     }
 
 -- the answer
@@ -57,9 +54,8 @@ examinedOf t marks =
     pick (eqb (settleRefusal t marks) 0) (acceptedExamined t marks)
     (refusedExamined (settleRefusal t marks) (settlePlace t marks))
 
--- accepted terms of a monthly contract, with the rows of the needed tables
-pub record Monthly (t : Terms) (lower upper : List ℕ) : Type 0 where
+-- accepted terms of a monthly contract, with the rates that they go by
+pub record Monthly (t : Terms) (rates : TableRates) : Type 0 where
   pub accepted : Accepted t 0
   pub some-years : 0 < t .term
-  pub lower-is : lower ≡ rowOf (t .option) (t .years) (t .age)
-  pub upper-is : (t .months ≡ 0 → ⊥) → upper ≡ rowOf (t .option) (t .years + 1) (t .age)
+  pub rates-are : rates ≡ ratesOf t

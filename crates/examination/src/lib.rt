@@ -1,6 +1,7 @@
 // Whether terms and marks are refused, and by which rule first; or what a settlement of them goes by.
 ghost use mathlib.Core.Path.{_≡_};
 ghost use Rattle.examination.specs.Examine.{refusedExamined, examinedOf};
+use election::TableRates;
 use money::ContributionPence;
 use money::PensionPence;
 use terms::Terms;
@@ -13,9 +14,8 @@ pub struct Examined {
     pub status: u32,
     // paid months
     pub paid: usize,
-    // rates of the only or lower table for the terms 1 to 20, and of the upper; zeros where none is needed
-    pub lower: [u32; 20],
-    pub upper: [u32; 20],
+    // the rates that the terms go by
+    pub rates: TableRates,
 }
 
 // A refusal and its place, with nothing to settle by.
@@ -28,8 +28,10 @@ fn refuse(refusal: u32, place: usize) -> Examined
         contribution: ContributionPence::none(),
         status: 0,
         paid: 0,
-        lower: [0u32; 20],
-        upper: [0u32; 20],
+        rates: TableRates {
+            lower: 0,
+            upper: 0,
+        },
     }
 }
 
@@ -37,17 +39,16 @@ fn refuse(refusal: u32, place: usize) -> Examined
 pub fn examine(t: Terms, marks: &[u8]) -> Examined
     ensures { λ r. ⌜ r ≡ examinedOf t (now (marks .entry)) ⌝ }
 {
-    let priced = election::price(t, PensionPence::none());
-    if priced.refusal != 0 {
-        return refuse(priced.refusal, 0);
+    let rates = election::rates_of(t);
+    let refusal = election::first_refusal(t, rates, PensionPence::none());
+    if refusal != 0 {
+        return refuse(refusal, 0);
     }
     let read = marks::read_marks(marks, t.term);
     if read.refusal != 0 {
         return refuse(read.refusal, read.place);
     }
-    let contribution = priced.contribution;
-    let lower = priced.lower;
-    let upper = priced.upper;
+    let contribution = election::cost(t, rates);
     let status = status::status(t.term, read);
     Examined {
         refusal: 0,
@@ -55,7 +56,6 @@ pub fn examine(t: Terms, marks: &[u8]) -> Examined
         contribution,
         status,
         paid: read.paid,
-        lower,
-        upper,
+        rates,
     }
 }

@@ -65,14 +65,7 @@ fn blend(row: &[u64]) {
 }
 
 fn rate(row: &[u64]) {
-    let pension_age = narrow(row, 1);
-    let age = narrow(row, 2);
-    let rates = if at(row, 0) == 1 {
-        personal::monthly_row(pension_age, age)
-    } else {
-        dependant::monthly_row(pension_age, age)
-    };
-    let rate = rates::rate_in(rates, narrow(row, 3));
+    let rate = monthly::monthly_rate(narrow(row, 0), narrow(row, 1), narrow(row, 2), narrow(row, 3));
     line::filled(b"rate* is#", row, [rate as u64, 0, 0, 0, 0, 0]);
 }
 

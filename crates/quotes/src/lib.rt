@@ -43,14 +43,15 @@ pub fn quote(t: Terms, existing: PensionPence, register: Register) -> Quoted
     ensures is { λ r. ⌜ numbersOf r ≡ quoteOf t (existing .0) (register .last) ⌝ }
     ensures refused { λ r. ⌜ isRefused (r .answer) ≡ ltb 0 (quoteOf t (existing .0) (register .last) .refusal) ⌝ }
 {
-    let priced = election::price(t, existing);
-    if priced.refusal != 0 {
-        return refuse(priced.refusal, register);
+    let rates = election::rates_of(t);
+    let refusal = election::first_refusal(t, rates, existing);
+    if refusal != 0 {
+        return refuse(refusal, register);
     }
     if FULL <= register.last {
         return refuse(9, register);
     }
-    let contribution = priced.contribution;
+    let contribution = election::cost(t, rates);
     let number = register.last + 1;
     Quoted {
         answer: QuoteAnswer::Made {

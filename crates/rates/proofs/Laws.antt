@@ -12,7 +12,7 @@ use lib.Dec.{ltb}
 use borrow.Author.Tests.{le-ltb, ltb-true, ltb-false}
 use Rattle.common.specs.Choice.{pick}
 use Rattle.common.proofs.Table.{getD-tabulate}
-use Rattle.rates.specs.Rates.{rateOf, rowOf, rateIn, lumpRateOf, Printed, LumpPrinted}
+use Rattle.rates.specs.Rates.{rateOf, lumpRateOf, Printed, LumpPrinted}
 use Rattle.rates.proofs.Monthly.{Rules, rules, rate-known, rate-placed}
 use Rattle.rates.proofs.LumpSum as lump
 
@@ -65,38 +65,15 @@ rate-rises o p a b term le last =
     step : (m : ℕ) → Printed o p m term → Printed o p (suc m) term → rateOf o p m term ≤ rateOf o p (suc m) term
     step m here r = rules o p m term (omega arith) (omega arith) .column (shown o p (suc m) term r)
 
--- a row has the rate of every term
-pub rate-in-row : (o p age term : ℕ) → rateIn (rowOf o p age) term ≡ rateOf o p age term
-unfolding rateIn rowOf
-rate-in-row o p age term = by (ltb term 1) (ltb 20 term) refl refl
-  where
-    none : (Printed o p age term → ⊥) → 0 ≡ rateOf o p age term
-    none n = by-positive (λ x. 0 ≡ x) _ refl (λ h. absurd (n (printed o p age term h)))
-
-    by : (a b : Bool) → ltb term 1 ≡ a → ltb 20 term ≡ b → pick a 0 (pick b 0 (getD (rowOf o p age) (term - 1) 0)) ≡ rateOf o p age term
-    by true b e f = none (λ r. omega (arith, ltb-true term 1 e))
-    by false true e f = none (λ r. omega (arith, ltb-true 20 term f))
-    by false false e f =
-        let high : term ≤ 20 = ltb-false 20 term f in
-        let same : 1 + (term - 1) ≡ term = omega (arith, ltb-false term 1 e) in
-        getD-tabulate (rateOf o p age) 1 20 (term - 1) (omega arith) ∙ ap (rateOf o p age) same
-
--- and a row of zeros has none
-pub rate-in-none : (term : ℕ) → rateIn (replicate 20 0) term ≡ 0
-unfolding rateIn
-rate-in-none term = by (ltb term 1) (ltb 20 term) refl
-  where
-    by : (a b : Bool) → ltb 20 term ≡ b → _≡_ {A = ℕ} (pick a 0 (pick b 0 (getD (replicate 20 0) (term - 1) 0))) 0
-    by true b f = refl
-    by false true f = refl
-    by false false f = getD-replicate 20 (term - 1) 0 0 (omega (arith, ltb-false 20 term f))
-
 -- the print rule of Table S, both ways
 pub lump-printed : (o p age : ℕ) → 0 < lumpRateOf o p age → LumpPrinted o p age
 lump-printed = lump.printed
 
 pub lump-shown : (o p age : ℕ) → LumpPrinted o p age → 0 < lumpRateOf o p age
 lump-shown o p age r = omega (arith, lump.rules o p age r .above)
+
+pub lump-none : (o p age : ℕ) → (LumpPrinted o p age → ⊥) → lumpRateOf o p age ≡ 0
+lump-none o p age none = sym (lump.lump-out o p age none)
 
 -- the greatest lump sum is £4,560, for option 2 at age 64
 pub lump-most : (o p age : ℕ) → lumpRateOf o p age ≤ 456000
@@ -125,8 +102,3 @@ lump-rises o p a b le last =
 -- every pension age has the same lump sum
 pub lump-same : (o p q age : ℕ) → LumpPrinted o p age → LumpPrinted o q age → lumpRateOf o p age ≡ lumpRateOf o q age
 lump-same o p q age r s = lump.entry o p age r ∙ sym (lump.entry o q age s)
-
--- the rate for a term of 1 to 20 stands at the place before
-pub rate-in-at : (row : List ℕ) (term : ℕ) → 0 < term → term ≤ 20 → rateIn row term ≡ getD row (term - 1) 0
-unfolding rateIn
-rate-in-at row term low high = rw (le-ltb term 1 low, le-ltb 20 term high)

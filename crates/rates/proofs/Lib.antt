@@ -1,7 +1,7 @@
 mod Walk
-mod Entries
+pub mod Entries
 pub mod Tables
-pub mod Rows
+pub mod Cells
 mod Monthly
 mod LumpSum
 pub mod Laws

@@ -7,16 +7,15 @@ use lib.Dec.{eqb}
 use lib.ListN.{getD}
 use Rattle.common.specs.Choice.{pick}
 use Rattle.rounding.specs.Nearest.{nearest, combine}
-use Rattle.rates.specs.Rates.{rowOf}
 use Rattle.terms.specs.declared.Terms.{Terms}
-use Rattle.election.specs.Told.{Accepted}
+use Rattle.election.specs.declared.TableRates.{TableRates}
 use Rattle.status.specs.Status.{statusFrom}
 use Rattle.marks.specs.Reading.{oneMore, stepBy, marksOf}
 use Rattle.money.specs.Limits.{capPence}
 use Rattle.years.specs.Years.{yearCredits}
 use Rattle.credit.specs.Earned.{nothingYet, creditAt, afterMark, afterMarks, EarnedWithin}
 use Rattle.settlement.specs.Credit.{purchaseIn}
-use Rattle.examination.specs.Examine.{settleRefusal}
+use Rattle.examination.specs.Examine.{settleRefusal, Monthly}
 use Rattle.schedule.specs.declared.Walk.{Walk}
 
 -- after all of some marks
@@ -71,12 +70,9 @@ pub record Tables (t : Terms) (marks lower upper : List ℕ) : Type 0 where
   pub lower-most : (n : ℕ) → getD lower n 0 ≤ capPence
   pub upper-most : (n : ℕ) → getD upper n 0 ≤ capPence
 
--- what `upper_years` asks: accepted terms of a monthly contract, with odd months the upper table's row, and no year of the only table
--- above the cap
-pub record UpperAsked (t : Terms) (upper only : List ℕ) : Type 0 where
-  pub accepted : Accepted t 0
-  pub some-years : 0 < t .term
-  pub upper-is : (t .months ≡ 0 → ⊥) → upper ≡ rowOf (t .option) (t .years + 1) (t .age)
+-- what `upper_years` asks: accepted terms of a monthly contract with the rates that they go by, and no year of the only table above the cap
+pub record UpperAsked (t : Terms) (rates : TableRates) (only : List ℕ) : Type 0 where
+  pub monthly : Monthly t rates
   pub only-most : (n : ℕ) → getD only n 0 ≤ capPence
 
 -- what `upper_years` promises: the upper table's whole-year credits with odd months

@@ -6,6 +6,7 @@ ghost use Rattle.money.specs.Money.{pension};
 ghost use Rattle.schedule.specs.Schedule.{filledOf, numbersOf, scheduleOf};
 ghost use Rattle.schedule.specs.Walk.{WalkWithin, WalkTold, heldOf, Holdable, Tables, UpperAsked, UpperYears};
 use credit::Earned;
+use election::TableRates;
 use marks::Reading;
 use money::PensionPence;
 use terms::Terms;
@@ -79,14 +80,14 @@ fn fill(t: Terms, lower: [u32; 21], upper: [u32; 21], marks: &[u8], out: &mut [u
 }
 
 // The upper table's whole-year credits; at a whole pension age they are not looked at, and the only table's stand in for them.
-fn upper_years(t: Terms, upper: [u32; 20], only: [u32; 21]) -> [u32; 21]
-    requires { ⌜ UpperAsked t upper only ⌝ }
+fn upper_years(t: Terms, rates: TableRates, only: [u32; 21]) -> [u32; 21]
+    requires { ⌜ UpperAsked t rates only ⌝ }
     ensures { λ r. ⌜ UpperYears t r ⌝ }
 {
     if t.months == 0 {
         return only;
     }
-    years::year_credits(upper, t.amount / money::STEP, t.term)
+    years::year_credits(t.option, t.years + 1, t.age, t.term, t.amount / money::STEP, rates.upper)
 }
 
 // Writes the credit after each mark to the first entries of the lent list. A refusal writes nothing.
@@ -113,10 +114,9 @@ pub fn schedule(t: Terms, marks: &[u8], out: &mut [u32]) -> Scheduled
             place: 0,
         };
     }
-    let lower = e.lower;
-    let upper = e.upper;
-    let only = years::year_credits(lower, t.amount / money::STEP, t.term);
-    let other = upper_years(t, upper, only);
+    let rates = e.rates;
+    let only = years::year_credits(t.option, t.years, t.age, t.term, t.amount / money::STEP, rates.lower);
+    let other = upper_years(t, rates, only);
     fill(t, only, other, marks, out);
     Scheduled {
         refusal: 0,

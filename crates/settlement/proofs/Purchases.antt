@@ -1,24 +1,24 @@
--- The published tables meet what the theorems on credits ask of rates, the code's figures are the tables', and what they earn fits 32 bits.
+-- The published tables meet what the theorems on credits and the code ask of rates, and what they earn fits 32 bits.
 -- Assumes nothing.
 use mathlib.Core.List.{List}
-use mathlib.Core.Path.{_≡_, refl, _∙_}
+use mathlib.Core.Path.{_≡_, refl}
 use Prim.Native.Nat.{ℕ, _+_, _*_, _/_, _≤_, _<_, _^_}
 use native.Mathlib.Nat.{mul-le-mul}
 use native.Mathlib.Omega.{arith}
 use lib.ListN.{length, getD}
 use Rattle.rounding.specs.Nearest.{nearest, combine}
 use Rattle.rounding.proofs.InForce.{nearest-within-half}
-use Rattle.rates.specs.Rates.{rateOf, rowOf}
+use Rattle.rates.specs.Rates.{rateOf}
 use Rattle.terms.specs.declared.Terms.{Terms}
-use Rattle.election.specs.Price.{contributionAt, contributionIn}
+use Rattle.election.specs.declared.TableRates.{TableRates}
+use Rattle.election.specs.Price.{contributionAt, contributionIn, ratesOf}
 use Rattle.election.specs.Told.{Accepted}
-use Rattle.terms.proofs.Laws.{monthly-rate}
+use Rattle.terms.proofs.Laws.{monthly-rate, upper-rate-odd}
 use Rattle.money.specs.Limits.{stepPounds, unit, capPence}
-use Rattle.years.specs.Years.{ownContribution, yearCredits}
-use Rattle.years.specs.SoundRates.{purchase, SoundRates}
+use Rattle.years.specs.Years.{ownContribution}
 use Rattle.credit.specs.Credit.{creditOver, creditIn}
 use Rattle.credit.proofs.Bounds.{credit-most}
-use Rattle.years.proofs.SoundRates.{purchase-row, falling-row, sound-row}
+use Rattle.years.proofs.Published.{rates-fall}
 use Rattle.distance.specs.Distance.{Sound}
 use Rattle.settlement.specs.Credit.{purchaseIn, purchasesOf, creditOf}
 
@@ -34,9 +34,9 @@ module _ (t : Terms) (a : Accepted t 0) (monthly : 0 < t .term) where
       record {
         odd-most = omega (arith, a .pension-age .months-high);
         term-most = a .term-high;
-        lower-falls = falling-row (t .option) (t .years) (t .age) (t .amount / stepPounds) (t .term) lower-printed;
+        lower-falls = rates-fall (t .option) (t .years) (t .age) (t .term) (t .amount / stepPounds) lower-printed;
         upper-falls =
-            λ odd. falling-row (t .option) (t .years + 1) (t .age) (t .amount / stepPounds) (t .term) (upper-printed (λ z. omega arith));
+            λ odd. rates-fall (t .option) (t .years + 1) (t .age) (t .term) (t .amount / stepPounds) (upper-printed (λ z. omega arith));
         same-term = refl;
         same-units = refl;
       }
@@ -44,24 +44,15 @@ module _ (t : Terms) (a : Accepted t 0) (monthly : 0 < t .term) where
   units-fit : t .amount / stepPounds * unit < 2 ^ 32
   units-fit = omega (arith, a .under-cap)
 
-  -- a row with a rate for the term is sound
-  row-sound : (p : ℕ) → 0 < rateOf (t .option) p (t .age) (t .term) → {row : List ℕ} → row ≡ rowOf (t .option) p (t .age)
-      → SoundRates (purchase row (t .amount / stepPounds) (t .term))
-  row-sound p shown e = rw e (sound-row (t .option) p (t .age) (t .amount / stepPounds) (t .term) shown units-fit)
+  -- what `year_credits` asks of the rates that the terms go by
+  module _ {rates : TableRates} (are : rates ≡ ratesOf t) where
+    pub lower-asked : (rates .lower ≡ rateOf (t .option) (t .years) (t .age) (t .term)) × ((0 < rates .lower) × (t .amount / stepPounds * unit < 2 ^ 32))
+    lower-asked = rw are (monthly-rate t (t .years) monthly, (a .lower-rate, units-fit))
 
-  -- the rows of the needed tables are sound
-  pub lower-sound : {row : List ℕ} → row ≡ rowOf (t .option) (t .years) (t .age)
-      → SoundRates (purchase row (t .amount / stepPounds) (t .term))
-  lower-sound = row-sound (t .years) lower-printed
-
-  pub upper-sound : (t .months ≡ 0 → ⊥) → {row : List ℕ} → row ≡ rowOf (t .option) (t .years + 1) (t .age)
-      → SoundRates (purchase row (t .amount / stepPounds) (t .term))
-  upper-sound odd = row-sound (t .years + 1) (upper-printed odd)
-
--- the whole-year credits that the code makes of a table's row are the table's
-pub years-of : (t : Terms) (p : ℕ) (row : List ℕ) {years : List ℕ} → row ≡ rowOf (t .option) p (t .age)
-    → years ≡ yearCredits nearest (purchase row (t .amount / stepPounds) (t .term)) → years ≡ yearCredits nearest (purchaseIn t p)
-years-of t p row e y = y ∙ rw (e, purchase-row (t .option) p (t .age) (t .amount / stepPounds) (t .term))
+    pub upper-asked : (t .months ≡ 0 → ⊥)
+        → (rates .upper ≡ rateOf (t .option) (t .years + 1) (t .age) (t .term)) × ((0 < rates .upper) × (t .amount / stepPounds * unit < 2 ^ 32))
+    upper-asked odd =
+        rw (are, upper-rate-odd t odd) (monthly-rate t (t .years + 1) monthly, (a .upper-rate odd, units-fit))
 
 -- a table's own contribution, by which its credit is worked out, is the one that the terms are priced by
 pub own-is-priced : (t : Terms) (p : ℕ) → 0 < t .term → ownContribution (purchaseIn t p) ≡ contributionIn t p

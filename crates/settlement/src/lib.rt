@@ -10,6 +10,7 @@ ghost use Rattle.settlement.specs.Settle.{creditAtStatus, settleOf, numb
 ghost use Rattle.settlement.specs.Demand.{Demand3};
 ghost use Rattle.settlement.specs.Marks.{MarksTold};
 ghost use Rattle.examination.specs.Examine.{Monthly};
+use election::TableRates;
 use money::ContributionPence;
 use money::PensionPence;
 use terms::Terms;
@@ -30,29 +31,30 @@ pub enum Settlement {
 }
 
 // What the paid runs of a monthly contract earned: each table's credit whole, then combined.
-fn earned(t: Terms, lower: [u32; 20], upper: [u32; 20], marks: &[u8]) -> PensionPence
-    requires { ⌜ Monthly t lower upper ⌝ }
+fn earned(t: Terms, rates: TableRates, marks: &[u8]) -> PensionPence
+    requires { ⌜ Monthly t rates ⌝ }
     requires { ⌜ length (now marks) ≤ 240 ⌝ }
     ensures { λ r. ⌜ r ≡ pension (creditOf t (now (marks .entry))) ⌝ }
 {
     let units = t.amount / money::STEP;
-    let only = credit::credit_over(years::year_credits(lower, units, t.term), marks);
+    let years = years::year_credits(t.option, t.years, t.age, t.term, units, rates.lower);
+    let only = credit::credit_over(years, marks);
     if t.months == 0 {
         return only;
     }
-    let other = credit::credit_over(years::year_credits(upper, units, t.term), marks);
+    let upper_years = years::year_credits(t.option, t.years + 1, t.age, t.term, units, rates.upper);
+    let other = credit::credit_over(upper_years, marks);
     only.combine(other, t.months)
 }
 
 // The credit at a status: nothing when refunded, a lump sum in full.
 fn credit_at_status(
     t: Terms,
-    lower: [u32; 20],
-    upper: [u32; 20],
+    rates: TableRates,
     status: u32,
     marks: &[u8],
 ) -> PensionPence
-    requires { ⌜ ((status ≡ 6 → ⊥) → Monthly t lower upper) ⌝ }
+    requires { ⌜ ((status ≡ 6 → ⊥) → Monthly t rates) ⌝ }
     requires { ⌜ length (now marks) ≤ 240 ⌝ }
     ensures { λ r. ⌜ r ≡ pension (creditAtStatus t (now (marks .entry)) status) ⌝ }
 {
@@ -62,7 +64,7 @@ fn credit_at_status(
     if status == 6 {
         return PensionPence::of_pounds(t.amount);
     }
-    earned(t, lower, upper, marks)
+    earned(t, rates, marks)
 }
 
 // The refund at a status: the paid months' contributions when refunded.
@@ -91,9 +93,8 @@ pub fn settle(t: Terms, marks: &[u8]) -> Settlement
         };
     }
     let contribution = e.contribution;
-    let lower = e.lower;
-    let upper = e.upper;
-    let credit = credit_at_status(t, lower, upper, e.status, marks);
+    let rates = e.rates;
+    let credit = credit_at_status(t, rates, e.status, marks);
     let refund = refund_at_status(contribution, e.status, e.paid);
     Settlement::Settled {
         contribution,

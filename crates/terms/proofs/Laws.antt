@@ -11,7 +11,7 @@ use Rattle.common.proofs.Choice.{either, not-first, first-refuses, first-passes
 use Rattle.common.proofs.Tests.{by-test, or-false}
 use Rattle.rates.specs.Rates.{rateOf, lumpRateOf}
 use Rattle.terms.specs.declared.Terms.{Terms}
-use Rattle.terms.specs.Rate.{tableRate}
+use Rattle.terms.specs.Rate.{rateFor, tableRate, upperRate}
 use Rattle.terms.specs.Rules.{wrongOption, wrongPensionAge, wrongTerm, wrongPayer, missingUpper, noRate, noUpperRate, wrongAmount, aboveCap}
 use Rattle.terms.specs.Rules.{termsRefusal, priceRefusal, refusalOf}
 use Rattle.terms.specs.Told.{TermsPass}
@@ -84,12 +84,16 @@ refusal-most t existing =
 
 -- the rate of a whole pension age: of Table S for a lump sum, else of the monthly table
 pub lump-rate : (t : Terms) (p : ℕ) → t .term ≡ 0 → tableRate t p ≡ lumpRateOf (t .option) p (t .age)
-unfolding tableRate
+unfolding tableRate rateFor
 lump-rate t p z = rw (eq-eqb (t .term) 0 z)
 
 pub monthly-rate : (t : Terms) (p : ℕ) → 0 < t .term → tableRate t p ≡ rateOf (t .option) p (t .age) (t .term)
-unfolding tableRate
+unfolding tableRate rateFor
 monthly-rate t p monthly = rw (ne-eqb (t .term) 0 (λ z. omega arith))
+
+pub upper-rate-odd : (t : Terms) → (t .months ≡ 0 → ⊥) → upperRate t ≡ tableRate t (t .years + 1)
+unfolding upperRate
+upper-rate-odd t odd = rw (ne-eqb (t .months) 0 odd)
 
 -- the needed rates are there where 5 and 6 pass
 

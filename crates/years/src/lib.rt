@@ -5,7 +5,8 @@ ghost use lib.ListN.{getD};
 ghost use Rattle.rounding.specs.Nearest.{nearest};
 ghost use Rattle.money.specs.Limits.{unit};
 ghost use Rattle.money.specs.Money.{pension};
-ghost use Rattle.years.specs.SoundRates.{purchase, SoundRates};
+ghost use Rattle.rates.specs.Rates.{rateOf};
+ghost use Rattle.years.specs.Published.{purchase};
 ghost use Rattle.years.specs.Years.{yearCredits, monthValue};
 use money::ContributionPence;
 use money::PensionPence;
@@ -18,18 +19,25 @@ fn year_credit(own: ContributionPence, rate: u32) -> u32
     own.buys(rate).0 as u32
 }
 
-// The twenty-one whole-year credits of one table's rates. Year 0 and the years past the term stay 0.
-pub fn year_credits(rates: [u32; 20], units: u32, term: u32) -> [u32; 21]
-    requires { ⌜ SoundRates (purchase rates units term) ⌝ }
-    ensures is { λ r. ⌜ r ≡ yearCredits nearest (purchase rates units term) ⌝ }
+// The twenty-one whole-year credits by one table's rates; `rate` is that of the term. Year 0 and the years past the term stay 0.
+pub fn year_credits(
+    option: u32,
+    pension_age: u32,
+    age: u32,
+    term: u32,
+    units: u32,
+    rate: u32,
+) -> [u32; 21]
+    requires { ⌜ rate ≡ rateOf option «pension_age» age term ⌝ }
+    requires { ⌜ (0 < rate) × (units * unit < 2 ^ 32) ⌝ }
+    ensures is { λ r. ⌜ r ≡ yearCredits nearest (purchase option «pension_age» age term units) ⌝ }
     ensures most { λ r. ⌜ ((n : ℕ) → getD r n 0 ≤ units * unit) ⌝ }
 {
-    let own = ContributionPence::of_units(units, rates::rate_in(rates, term));
+    let own = ContributionPence::of_units(units, rate);
     let mut years = [0u32; 21];
     let mut n: u32 = 1;
     while n <= term {
-        let at = n as usize;
-        years[at] = year_credit(own, rates[at - 1]);
+        years[n as usize] = year_credit(own, monthly::monthly_rate(option, pension_age, age, n));
         n += 1;
     }
     years

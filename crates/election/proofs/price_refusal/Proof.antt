@@ -1,27 +1,28 @@
 -- `election::price_refusal` meets its contract: each rule is tested in its order.
 -- Assumes nothing.
 use mathlib.Core.Bool.{Bool, true, false, not, _&&_, _||_}
-use mathlib.Core.Path.{_≡_, refl, sym, ap, _∙_}
+use mathlib.Core.Path.{_≡_, refl, sym, _∙_}
 use Prim.Native.Nat.{ℕ, _+_}
 use lib.Dec.{eqb}
 use borrow.Author.Needs.{needs}
-use borrow.Author.Tests.{eq-eqb, ne-eqb, eqb-false}
+use borrow.Author.Tests.{eq-eqb, ne-eqb}
 use Rattle.common.specs.Choice.{pick}
-use Rattle.terms.specs.Rate.{tableRate}
+use Rattle.terms.specs.Rate.{tableRate, upperRate}
 use Rattle.terms.specs.Rules.{missingUpper, noRate, noUpperRate, wrongAmount, aboveCap, priceRefusal}
 use Rattle.terms.specs.declared.Terms.{Terms}
-use Rattle.election.specs.Told.{Found}
+use Rattle.election.specs.declared.TableRates.{TableRates}
+use Rattle.election.specs.Price.{ratesOf}
 use Rattle.election.proofs.price_refusal.Statement.{statement}
 use Rattle.election.proofs.price_refusal.Tie as tie
 
 -- the rate of the upper table matters with odd months alone
-upper-is : (t : Terms) (upper : ℕ) → ((t .months ≡ 0 → ⊥) → upper ≡ tableRate t (t .years + 1))
-    → missingUpper t upper ≡ missingUpper t (tableRate t (t .years + 1))
-upper-is t upper h = go (eqb (t .months) 0) refl
+upper-is : (t : Terms) → missingUpper t (upperRate t) ≡ missingUpper t (tableRate t (t .years + 1))
+unfolding upperRate
+upper-is t = go (eqb (t .months) 0)
   where
-    go : (b : Bool) → eqb (t .months) 0 ≡ b → (not b && eqb upper 0) ≡ (not b && eqb (tableRate t (t .years + 1)) 0)
-    go true e = refl
-    go false e = ap (λ (u : ℕ). eqb u 0) (h (eqb-false _ _ e))
+    go : (b : Bool) → (not b && eqb (pick b 0 (tableRate t (t .years + 1))) 0) ≡ (not b && eqb (tableRate t (t .years + 1)) 0)
+    go true = refl
+    go false = refl
 
 -- where no rate is found: 5 for the lower one and for a lump sum, 6 for the upper one of a monthly contract
 no-rates : (lump lower upper : Bool) (rest : ℕ)
@@ -33,15 +34,15 @@ no-rates false true upper rest = refl
 no-rates false false true rest = refl
 no-rates false false false rest = refl
 
--- the chain by the rates that were found
-decided : (t : Terms) (existing lower upper : ℕ) → Found t lower upper → priceRefusal t existing
-    ≡ pick (eqb lower 0) 5 (pick (missingUpper t upper) (pick (eqb (t .term) 0) 5 6) (pick (wrongAmount t) 7 (pick (aboveCap t existing) 8 0)))
+-- the chain by the rates that were looked up
+decided : (t : Terms) (existing : ℕ) {rates : TableRates} → rates ≡ ratesOf t → priceRefusal t existing
+    ≡ pick (eqb (rates .lower) 0) 5
+    (pick (missingUpper t (rates .upper)) (pick (eqb (t .term) 0) 5 6) (pick (wrongAmount t) 7 (pick (aboveCap t existing) 8 0)))
 unfolding priceRefusal noRate noUpperRate
-decided t existing lower upper f =
-    rw (f .lower-is, upper-is t upper (f .upper-is)) (no-rates (eqb (t .term) 0) (eqb (tableRate t (t .years)) 0) _ _)
+decided t existing e = rw (e, upper-is t) (no-rates (eqb (t .term) 0) (eqb (tableRate t (t .years)) 0) _ _)
 
 returns : tie.Need-returns
-returns c = rw (decided _ _ _ _ (c .before .pre), eq-eqb _ _ (c .if1 .taken))
+returns c = rw (decided _ _ (c .before .before .pre), eq-eqb _ _ (c .if1 .taken))
 
 missing-upper-requires : tie.Need-missing-upper-requires
 missing-upper-requires c κs = search needs
@@ -51,7 +52,7 @@ returns-2 c =
     let upper = c .before .before in
     let lower = upper .before .before in
     rw (
-      decided _ _ _ _ (lower .before .pre),
+      decided _ _ (lower .before .before .pre),
       ne-eqb _ _ (lower .if1 .left),
       sym (upper .before .missing-upper .ensures) ∙ upper .if2 .taken,
       eq-eqb _ _ (c .if3 .taken),
@@ -62,7 +63,7 @@ returns-3 c =
     let upper = c .before .before in
     let lower = upper .before .before in
     rw (
-      decided _ _ _ _ (lower .before .pre),
+      decided _ _ (lower .before .before .pre),
       ne-eqb _ _ (lower .if1 .left),
       sym (upper .before .missing-upper .ensures) ∙ upper .if2 .taken,
       ne-eqb _ _ (c .if3 .left),
@@ -76,7 +77,7 @@ returns-4 c =
     let upper = c .before .before in
     let lower = upper .before .before in
     rw (
-      decided _ _ _ _ (lower .before .pre),
+      decided _ _ (lower .before .before .pre),
       ne-eqb _ _ (lower .if1 .left),
       sym (upper .before .missing-upper .ensures) ∙ upper .if2 .left,
       sym (c .before .wrong-amount .ensures) ∙ c .if4 .taken,
@@ -91,7 +92,7 @@ returns-5 c =
     let upper = amount .before .before in
     let lower = upper .before .before in
     rw (
-      decided _ _ _ _ (lower .before .pre),
+      decided _ _ (lower .before .before .pre),
       ne-eqb _ _ (lower .if1 .left),
       sym (upper .before .missing-upper .ensures) ∙ upper .if2 .left,
       sym (amount .before .wrong-amount .ensures) ∙ amount .if4 .left,
@@ -104,7 +105,7 @@ returns-6 c =
     let upper = amount .before .before in
     let lower = upper .before .before in
     rw (
-      decided _ _ _ _ (lower .before .pre),
+      decided _ _ (lower .before .before .pre),
       ne-eqb _ _ (lower .if1 .left),
       sym (upper .before .missing-upper .ensures) ∙ upper .if2 .left,
       sym (amount .before .wrong-amount .ensures) ∙ amount .if4 .left,

@@ -7,10 +7,10 @@ use native.Mathlib.Omega.{arith}
 use lib.Dec.{ltb}
 use borrow.Author.Needs.{needs}
 use borrow.Author.Tests.{eq-eqb, ne-eqb, le-leb, lt-leb, lt-ltb}
-use Rattle.election.proofs.Laws.{priced-told, priced-contribution}
+use Rattle.election.proofs.Laws.{accepted-facts}
 use Rattle.election.specs.Price.{contributionOf}
+use Rattle.money.specs.declared.ContributionPence.{ContributionPence}
 use Rattle.terms.specs.Rules.{refusalOf}
-use Rattle.election.specs.declared.Priced.{Priced}
 use Rattle.terms.specs.declared.Terms.{Terms}
 use Rattle.quotes.specs.Quote.{QuoteNumbers, quoteRefusal, quoteOf, numbersOf, isRefused}
 use Rattle.quotes.specs.declared.QuoteAnswer.the-variants.{Refused}
@@ -51,15 +51,18 @@ refuses : (n : ℕ) (register : Register) {q : Quoted} → q ≡ record { answer
     → isRefused (q .answer) ≡ some-refusal (numbersOf q)
 refuses n register e some = rw (e, lt-ltb 0 n (omega (arith, some)))
 
-price-requires : tie.Need-price-requires
-price-requires c κs = search needs
+rates-of-requires : tie.Need-rates-of-requires
+rates-of-requires c κs = search needs
+
+first-refusal-requires : tie.Need-first-refusal-requires
+first-refusal-requires c κs = c .rates-of .ensures
 
 refuse-requires : tie.Need-refuse-requires
 refuse-requires c κs = search needs
 
 returns : tie.Need-returns
 returns c =
-    let first = priced-told _ _ (c .before .before .before .price .ensures) in
+    let first = c .before .before .first-refusal .ensures in
     let some = c .before .if1 .taken in
     let is = ap numbersOf (c .refuse .ensures) ∙ refused _ _ _ _ (first ∙ sym (by-terms _ _ _ (λ z. some (first ∙ z)))) some in
     (is, refuses _ _ (c .refuse .ensures) some ∙ ap some-refusal is)
@@ -70,9 +73,15 @@ refuse-requires-2 c κs = search needs
 returns-2 : tie.Need-returns-2
 returns-2 c =
     let b = c .before .before .before in
-    let pass = sym (priced-told _ _ (b .before .before .price .ensures)) ∙ b .if1 .left in
+    let pass = sym (b .before .first-refusal .ensures) ∙ b .if1 .left in
     let is = ap numbersOf (c .refuse2 .ensures) ∙ refused _ _ _ _ (sym (full _ _ _ pass (c .before .if2 .taken))) (λ z. omega arith) in
     (is, refuses _ _ (c .refuse2 .ensures) (λ z. omega arith) ∙ ap some-refusal is)
+
+cost-requires : tie.Need-cost-requires
+cost-requires c κs =
+    let b = c .before .before in
+    let pass = sym (b .before .first-refusal .ensures) ∙ b .if1 .left in
+    (omega (arith, accepted-facts _ _ pass .under-cap), b .before .before .rates-of .ensures)
 
 add-number : tie.Need-add-number
 add-number c = search needs
@@ -80,20 +89,20 @@ add-number c = search needs
 returns-3 : tie.Need-returns-3
 returns-3 c =
     let b = c .before .before .before .before in
-    let paid = b .before .before .price .ensures in
-    let pass = sym (priced-told _ _ paid) ∙ b .if1 .left in
-    let is = made _ _ _ _ (ap (λ (p : Priced). p .contribution .0) paid ∙ priced-contribution _ _ pass)
-    (open-register _ _ _ pass (c .before .before .if2 .left)) in
+    let pass = sym (b .before .first-refusal .ensures) ∙ b .if1 .left in
+    let is = made _ _ _ _ (ap (λ (k : ContributionPence). k .0) (c .before .cost .ensures)) (open-register _ _ _ pass (c .before .before .if2 .left)) in
     (is, ap some-refusal is)
 
 pub quote-spec : {M : Type 1} → statement M
 quote-spec =
     tie.close
     (tie.spec
-    price-requires
+    rates-of-requires
+    first-refusal-requires
     refuse-requires
     returns
     refuse-requires-2
     returns-2
+    cost-requires
     add-number
     returns-3)

@@ -1,53 +1,46 @@
--- `rates::lump_sum_rate` meets its contract: test by test.
+-- `rates::lump_sum_rate` meets its contract: each option has its column, and any other has no lump sums.
 -- Assumes nothing.
+use native.Mathlib.Omega.{arith}
 use borrow.Author.Needs.{needs}
-use Rattle.common.proofs.Tests.{tests}
-use Rattle.rates.specs.Rates.{lumpColumn, lumpRateOf}
+use Rattle.rates.specs.Rates.{lumpColumn}
+use Rattle.rates.proofs.LumpSum.{lump-out, lump-chosen}
 use Rattle.rates.proofs.lump_sum_rate.Statement.{statement}
 use Rattle.rates.proofs.lump_sum_rate.Tie as tie
 
 returns : tie.Need-returns
-unfolding lumpRateOf lumpColumn
-returns c = search tests
+returns c = lump-out _ _ _ (λ r. omega arith)
 
 returns-2 : tie.Need-returns-2
-unfolding lumpRateOf lumpColumn
-returns-2 c = search tests
+returns-2 c = lump-out _ _ _ (λ r. omega arith)
 
 returns-3 : tie.Need-returns-3
-unfolding lumpRateOf lumpColumn
-returns-3 c = search tests
+returns-3 c = lump-out _ _ _ (λ r. omega arith)
 
 returns-4 : tie.Need-returns-4
-unfolding lumpRateOf lumpColumn
-returns-4 c = search tests
+returns-4 c = lump-out _ _ _ (λ r. omega arith)
 
-cast-line : tie.Need-cast-line
-cast-line c = search needs
+personal-requires : tie.Need-personal-requires
+personal-requires c κs = search needs
 
-mul-personal : tie.Need-mul-personal
-mul-personal c = search needs
+column-requires : tie.Need-column-requires
+column-requires c κs = search needs
 
-array-read-personal : tie.Need-array-read-personal
-array-read-personal c = search needs
+dependant-requires : tie.Need-dependant-requires
+dependant-requires c κs = search needs
 
-mul-dependant : tie.Need-mul-dependant
-mul-dependant c = search needs
-
-array-read-dependant : tie.Need-array-read-dependant
-array-read-dependant c = search needs
+column-requires-2 : tie.Need-column-requires-2
+column-requires-2 c κs = search needs
 
 returns-5 : tie.Need-returns-5
-unfolding lumpRateOf lumpColumn
-returns-5 c = search tests
+unfolding lumpColumn
+returns-5 c = lump-chosen 1 _ _ (omega arith) (omega arith) (c .before .before .before .match .keys1) (c .before .before .personal .ensures) (c .column .ensures)
 
 returns-6 : tie.Need-returns-6
-unfolding lumpRateOf lumpColumn
-returns-6 c = search tests
+unfolding lumpColumn
+returns-6 c = lump-chosen 2 _ _ (omega arith) (omega arith) (c .before .before .before .match .keys2) (c .before .before .dependant .ensures) (c .column2 .ensures)
 
 returns-7 : tie.Need-returns-7
-unfolding lumpRateOf lumpColumn
-returns-7 c = search tests
+returns-7 c = lump-out _ _ _ (λ r. omega arith)
 
 pub lump-sum-rate-spec : {M : Type 1} → statement M
 lump-sum-rate-spec =
@@ -57,11 +50,10 @@ lump-sum-rate-spec =
     returns-2
     returns-3
     returns-4
-    cast-line
-    mul-personal
-    array-read-personal
-    mul-dependant
-    array-read-dependant
+    personal-requires
+    column-requires
+    dependant-requires
+    column-requires-2
     returns-5
     returns-6
     returns-7)

@@ -12,7 +12,7 @@ use Rattle.terms.specs.declared.Terms.{Terms}
 use Rattle.schedule.specs.Schedule.{ScheduleNumbers, filledOf, scheduleOf}
 use Rattle.settlement.specs.Settle.{settleOf}
 use Rattle.settlement.proofs.Laws.{settle-refused, settle-refusal}
-use Rattle.settlement.proofs.Purchases.{lower-sound, years-of}
+use Rattle.settlement.proofs.Purchases.{lower-asked}
 use Rattle.examination.proofs.Examination.{examined-told, examined-none, examined-monthly}
 use Rattle.examination.proofs.Laws.{lawful, examined-refused}
 use Rattle.examination.specs.Examine.{settleRefusal, examinedOf, Monthly}
@@ -48,7 +48,7 @@ module _ (t : Terms) (marks list : List ℕ) where
 
 -- a contract with a mark is monthly
 monthly-terms : (t : Terms) (marks : List ℕ) {e : Examined} → e ≡ examinedOf t marks → e .refusal ≡ 0 → (length marks ≡ 0 → ⊥)
-    → Monthly t (e .lower) (e .upper)
+    → Monthly t (e .rates)
 monthly-terms t marks is z some =
     let none = examined-none t marks is z in
     examined-monthly t marks is none (omega (arith, lawful t marks none .few))
@@ -68,36 +68,35 @@ returns-3 c =
     let none = examined-none _ _ (c .before .before .before .before .examine .ensures) (c .before .before .if1 .left) in
     ap at-list (unwritten (c .before .before .before .before .before .before .before .args .t) _ _ (c .if3 .taken)) ∙ filled _ _ _ none (c .before .if2 .left)
 
+-- with a mark and no refusal the contract is monthly
+monthly-here : (c : tie.Else3) → Monthly (c .before .before .before .before .before .before .before .args .t) (c .before .before .before .before .examine .result .rates)
+monthly-here c = monthly-terms _ _ (c .before .before .before .before .examine .ensures) (c .before .before .if1 .left) (c .if3 .left)
+
 year-credits-requires : tie.Need-year-credits-requires
 year-credits-requires c κs =
-    let m = monthly-terms _ _ (c .before .before .before .before .before .before .before .examine .ensures) (c .before .before .before .before .before .if1 .left) (c .before .before .before .if3 .left) in
-    lower-sound _ (m .accepted) (m .some-years) (m .lower-is)
+    let m = monthly-here (c .before .before) in
+    lower-asked _ (m .accepted) (m .some-years) (m .rates-are)
 
 upper-years-requires : tie.Need-upper-years-requires
 upper-years-requires c κs =
-    let m = monthly-terms _ _ (c .before .before .before .before .before .before .before .before .examine .ensures) (c .before .before .before .before .before .before .if1 .left) (c .before .before .before .before .if3 .left) in
-    record {
-      accepted = m .accepted;
-      some-years = m .some-years;
-      upper-is = m .upper-is;
-      only-most = λ n. omega (arith, c .year-credits .ensures .1 n, m .accepted .under-cap);
-    }
+    let m = monthly-here (c .before .before .before) in
+    record { monthly = m; only-most = λ n. omega (arith, c .year-credits .ensures .1 n, m .accepted .under-cap) }
 
 fill-requires : tie.Need-fill-requires
 fill-requires c κs =
-    let e = c .before .before .before .before .before .before .before .before .before .before .examine .ensures in
-    let m = monthly-terms _ _ e (c .before .before .before .before .before .before .before .before .if1 .left) (c .before .before .before .before .before .before .if3 .left) in
+    let b = c .before .before .before .before .before in
+    let m = monthly-here b in
     let y = c .before .before .year-credits .ensures in
     let u = c .before .upper-years .ensures in (
       record {
-        none-refused = examined-none _ _ e (c .before .before .before .before .before .before .before .before .if1 .left);
+        none-refused = examined-none _ _ (b .before .before .before .before .examine .ensures) (b .before .before .if1 .left);
         monthly = m .some-years;
-        lower-is = years-of (c .before .before .before .before .before .before .before .before .before .before .before .before .before .args .t) _ _ (m .lower-is) (y .0);
+        lower-is = y .0;
         upper-is = u .is;
         lower-most = λ n. omega (arith, y .1 n, m .accepted .under-cap);
         upper-most = u .most;
       },
-      c .before .before .before .before .before .before .before .if2 .left,
+      b .before .if2 .left,
     )
 
 same-length : tie.Need-same-length
@@ -106,8 +105,9 @@ same-length c = search needs
 returns-4 : tie.Need-returns-4
 unfolding at-list
 returns-4 c =
-    let none = examined-none _ _ (c .before .before .before .before .before .before .before .before .before .before .before .before .before .examine .ensures) (c .before .before .before .before .before .before .before .before .before .before .before .if1 .left) in
-    ap at-list (c .before .before .fill .ensures) ∙ filled _ _ _ none (c .before .before .before .before .before .before .before .before .before .before .if2 .left)
+    let b = c .before .before .before .before .before .before .before .before .before in
+    let none = examined-none _ _ (b .before .before .before .examine .ensures) (b .before .if1 .left) in
+    ap at-list (c .before .before .fill .ensures) ∙ filled _ _ _ none (b .if2 .left)
 
 pub schedule-spec : {M : Type 1} → statement M
 schedule-spec =

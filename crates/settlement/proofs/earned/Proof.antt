@@ -1,4 +1,4 @@
--- `settlement::earned` meets its contract: each table's credit is worked out of its own row, then both are combined.
+-- `settlement::earned` meets its contract: each table's credit is worked out by its own years, then both are combined.
 -- Assumes nothing.
 use mathlib.Core.List.{List}
 use mathlib.Core.Path.{_≡_, sym, ap, _∙_}
@@ -7,27 +7,24 @@ use native.Mathlib.Omega.{arith}
 use lib.ListN.{length, getD}
 use borrow.Author.Needs.{needs}
 use Rattle.credit.specs.Credit.{creditOver, creditIn}
-use Rattle.years.specs.SoundRates.{purchase}
 use Rattle.years.specs.Years.{yearCredits}
 use Rattle.money.specs.Limits.{stepPounds, unit}
 use Rattle.election.specs.Told.{Accepted}
 use Rattle.terms.specs.declared.Terms.{Terms}
 use Rattle.money.specs.Money.{pension}
 use Rattle.money.specs.declared.PensionPence.{PensionPence}
-use Rattle.rates.specs.Rates.{rowOf}
 use Rattle.rounding.proofs.Laws.{combine-none}
 use Rattle.rounding.specs.Nearest.{nearest, combine}
-use Rattle.settlement.proofs.Purchases.{lower-sound, upper-sound, years-of, credit-fits, credit-combined}
+use Rattle.settlement.proofs.Purchases.{lower-asked, upper-asked, credit-fits, credit-combined}
 use Rattle.settlement.specs.Credit.{purchaseIn, creditOf}
 use Rattle.settlement.proofs.earned.Statement.{statement}
 use Rattle.settlement.proofs.earned.Tie as tie
 
--- one table's credit, by its row
-worked : (t : Terms) (p : ℕ) (ms row : List ℕ) {years : List ℕ} {k : PensionPence} → row ≡ rowOf (t .option) p (t .age)
-    → years ≡ yearCredits nearest (purchase row (t .amount / stepPounds) (t .term)) → k ≡ pension (creditOver nearest years ms)
-    → k ≡ pension (creditIn nearest (purchaseIn t p) ms)
+-- one table's credit, by its years
+worked : (t : Terms) (p : ℕ) (ms : List ℕ) {years : List ℕ} {k : PensionPence} → years ≡ yearCredits nearest (purchaseIn t p)
+    → k ≡ pension (creditOver nearest years ms) → k ≡ pension (creditIn nearest (purchaseIn t p) ms)
 unfolding creditIn
-worked t p ms row e y k = k ∙ rw (years-of t p row e y)
+worked t p ms y k = k ∙ rw y
 
 small : (t : Terms) (ms years : List ℕ) {k : PensionPence} → length ms ≤ 240 → Accepted t 0
     → ((n : ℕ) → getD years n 0 ≤ t .amount / stepPounds * unit) → k ≡ pension (creditOver nearest years ms) → k .0 < 2 ^ 32
@@ -44,37 +41,45 @@ both t ms e f = rw (e, f) (ap pension (sym (credit-combined t ms)))
 year-credits-requires : tie.Need-year-credits-requires
 year-credits-requires c κs =
     let m = c .before .before .pre .0 in
-    lower-sound _ (m .accepted) (m .some-years) (m .lower-is)
+    lower-asked _ (m .accepted) (m .some-years) (m .rates-are)
 
 credit-over-requires : tie.Need-credit-over-requires
 credit-over-requires c κs = search needs
 
 returns : tie.Need-returns
 returns c =
-    let t = c .before .before .before .before .before .before .args .t in
-    only-table t _ (c .if1 .taken) (worked t _ _ _ (c .before .before .before .before .before .before .pre .0 .lower-is) (c .before .before .before .year-credits .ensures .0) (c .before .before .credit-over .ensures))
+    let b = c .before .before in
+    let t = b .before .before .before .before .args .t in
+    only-table t _ (c .if1 .taken) (worked t _ _ (b .before .year-credits .ensures .0) (b .credit-over .ensures))
+
+add-year-credits : tie.Need-add-year-credits
+add-year-credits c =
+    omega (arith, c .before .before .before .before .before .before .before .pre .0 .accepted .pension-age .age-high)
 
 year-credits-requires-2 : tie.Need-year-credits-requires-2
 year-credits-requires-2 c κs =
-    let m = c .before .before .before .before .before .before .pre .0 in
-    upper-sound _ (m .accepted) (m .some-years) (c .if1 .left) (m .upper-is (c .if1 .left))
+    let m = c .before .before .before .before .before .before .before .pre .0 in
+    upper-asked _ (m .accepted) (m .some-years) (m .rates-are) (c .before .if1 .left)
 
 credit-over-requires-2 : tie.Need-credit-over-requires-2
 credit-over-requires-2 c κs = search needs
 
 combine-requires : tie.Need-combine-requires
 combine-requires c κs =
-    let t = c .before .before .before .before .before .before .before .before .args .t in
-    let few = c .before .before .before .before .before .before .before .before .pre .1 in
-    (small t _ _ few (c .before .before .before .before .before .before .before .before .pre .0 .accepted) (c .before .before .before .before .before .year-credits .ensures .1) (c .before .before .before .before .credit-over .ensures), small t _ _ few (c .before .before .before .before .before .before .before .before .pre .0 .accepted) (c .before .year-credits2 .ensures .1) (c .credit-over2 .ensures))
+    let b = c .before .before .before .before .before in
+    let in-all = b .before .before .before .before in
+    let t = in-all .args .t in
+    let few = in-all .pre .1 in
+    let a = in-all .pre .0 .accepted in
+    (small t _ _ few a (b .before .year-credits .ensures .1) (b .credit-over .ensures), small t _ _ few a (c .before .year-credits2 .ensures .1) (c .credit-over2 .ensures))
 
 returns-2 : tie.Need-returns-2
 returns-2 c =
-    let t = c .before .before .before .before .before .before .before .before .before .args .t in
-    let m = c .before .before .before .before .before .before .before .before .before .pre .0 in
+    let b = c .before .before .before .before .before .before in
+    let t = b .before .before .before .before .args .t in
     c .combine .ensures
-    ∙ both t _ (worked t _ _ _ (m .lower-is) (c .before .before .before .before .before .before .year-credits .ensures .0) (c .before .before .before .before .before .credit-over .ensures))
-    (worked t _ _ _ (m .upper-is (c .before .before .before .if1 .left)) (c .before .before .year-credits2 .ensures .0) (c .before .credit-over2 .ensures))
+    ∙ both t _ (worked t _ _ (b .before .year-credits .ensures .0) (b .credit-over .ensures))
+    (worked t _ _ (c .before .before .year-credits2 .ensures .0) (c .before .credit-over2 .ensures))
 
 pub earned-spec : {M : Type 1} → statement M
 earned-spec =
@@ -83,6 +88,7 @@ earned-spec =
     year-credits-requires
     credit-over-requires
     returns
+    add-year-credits
     year-credits-requires-2
     credit-over-requires-2
     combine-requires

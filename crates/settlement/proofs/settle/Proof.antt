@@ -65,19 +65,22 @@ returns c = near _ _ (refuses _ _ (c .before .before .examine .ensures) (c .if1 
 
 credit-at-status-requires : tie.Need-credit-at-status-requires
 credit-at-status-requires c κs =
-    let e = c .before .before .before .before .before .examine .ensures in
-    let none = examined-none _ _ e (c .before .before .before .if1 .left) in
+    let b = c .before .before in
+    let e = b .before .before .examine .ensures in
+    let none = examined-none _ _ e (b .if1 .left) in
     (λ other. examined-monthly _ _ e none (not-lump _ _ (rw (examined-status _ _ e none) at other)), few _ _ none)
 
 refund-at-status-requires : tie.Need-refund-at-status-requires
 refund-at-status-requires c κs =
-    let e = c .before .before .before .before .before .before .examine .ensures in
-    small _ _ e (examined-none _ _ e (c .before .before .before .before .if1 .left))
+    let b = c .before .before .before in
+    let e = b .before .before .examine .ensures in
+    small _ _ e (examined-none _ _ e (b .if1 .left))
 
 returns-2 : tie.Need-returns-2
 returns-2 c =
-    let e = c .before .before .before .before .before .before .before .examine .ensures in
-    near _ _ (settles _ _ e (examined-none _ _ e (c .before .before .before .before .before .if1 .left)) (c .before .credit-at-status .ensures) (c .refund-at-status .ensures)) refl
+    let b = c .before .before .before .before in
+    let e = b .before .before .examine .ensures in
+    near _ _ (settles _ _ e (examined-none _ _ e (b .if1 .left)) (c .before .credit-at-status .ensures) (c .refund-at-status .ensures)) refl
 
 pub settle-spec : {M : Type 1} → statement M
 settle-spec =

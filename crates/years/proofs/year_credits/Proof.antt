@@ -16,11 +16,11 @@ use Rattle.rounding.specs.Nearest.{nearest}
 use Rattle.rounding.proofs.InForce.{nearest-within-half}
 use Rattle.money.specs.declared.ContributionPence.{ContributionPence}
 use Rattle.money.specs.Money.{contribution}
-use Rattle.rates.specs.Rates.{rateIn}
-use Rattle.rates.proofs.Laws.{rate-in-at}
 use Rattle.money.specs.Limits.{unit}
-use Rattle.years.specs.Years.{Purchase, yearCredit, yearCredits}
-use Rattle.years.specs.SoundRates.{purchase, SoundRates}
+use Rattle.rates.proofs.Laws.{printed}
+use Rattle.years.specs.Years.{Purchase, ownContribution, yearCredit, yearCredits}
+use Rattle.years.specs.Published.{purchase, Falling}
+use Rattle.years.proofs.Published.{rates-fall}
 use Rattle.years.proofs.Years.{year-none, year-within, year-past, own-most, years-most}
 use Rattle.years.proofs.year_credits.Statement.{statement}
 use Rattle.years.proofs.year_credits.Tie as tie
@@ -29,25 +29,25 @@ first : (k : ℕ) → k < 1 → k ≡ 0
 first k h = omega arith
 
 -- what a turn of the loop knows: its own contribution and the rate of its year
-record Turn (rates : List ℕ) (units term n : ℕ) (own : ContributionPence) (rate : ℕ) : Type 0 where
-  paid : own ≡ contribution (units * rateIn rates term)
-  rated : rate ≡ rateIn rates n
+record Turn (p : Purchase) (n : ℕ) (own : ContributionPence) (rate : ℕ) : Type 0 where
+  paid : own ≡ contribution (ownContribution p)
+  rated : rate ≡ p .rate n
   low : 0 < n
-  within : n ≤ term
+  within : n ≤ p .term
 
-module _ (rates : List ℕ) (units term n : ℕ) (own : ContributionPence) (rate : ℕ) (t : Turn rates units term n own rate) where
-  year-fits : SoundRates (purchase rates units term) → (0 < rate) × (own .0 * unit ≤ (2 ^ 32 - 1) * rate)
-  year-fits sound = rw (t .paid, t .rated) (
-    sound .falling .positive n (t .low) (t .within),
+module _ (p : Purchase) (n : ℕ) (own : ContributionPence) (rate : ℕ) (t : Turn p n own rate) where
+  year-fits : Falling p → p .units * unit < 2 ^ 32 → (0 < rate) × (own .0 * unit ≤ (2 ^ 32 - 1) * rate)
+  year-fits falling fits = rw (t .paid, t .rated) (
+    falling .positive n (t .low) (t .within),
     omega (
       arith,
-      own-most (purchase rates units term) (sound .falling) n (t .low) (t .within),
-      mul-le-mul-right {m = units * unit} {n = 2 ^ 32 - 1} (rateIn rates n) (omega (arith, sound .amount-fits)),
+      own-most p falling n (t .low) (t .within),
+      mul-le-mul-right {m = p .units * unit} {n = 2 ^ 32 - 1} (p .rate n) (omega (arith, fits)),
     ),
   )
 
-  this-year : (r : ℕ) → r ≡ nearest (own .0 * unit) rate → r ≡ yearCredit nearest (purchase rates units term) n
-  this-year r h = h ∙ rw (t .paid, t .rated) (sym (year-within nearest (purchase rates units term) n (t .low) (t .within)))
+  this-year : (r : ℕ) → r ≡ nearest (own .0 * unit) rate → r ≡ yearCredit nearest p n
+  this-year r h = h ∙ rw (t .paid, t .rated) (sym (year-within nearest p n (t .low) (t .within)))
 
 -- a row that is filled up to the term is the row of credits
 filled : (p : Purchase) (years : List ℕ) (n : ℕ) → p .term < n → length years ≡ 21 → ((k : ℕ) → k < n → getD years k 0 ≡ yearCredit nearest p k)
@@ -59,86 +59,95 @@ filled p years n past len below above =
     (λ h. above k (ltb-false k n h) l ∙ sym (year-past nearest p (0 + k) (omega (arith, ltb-false k n h))))
 
 abbrev Inv-loop : tie.InvT-loop
-Inv-loop units term rates own years₀ n₀ years n =
+Inv-loop option pensionAge age term units rate own years₀ n₀ years n =
     (0 < n) × (n ≤ term + 1) × (length years ≡ 21)
-    × ((k : ℕ) → k < n → getD years k 0 ≡ yearCredit nearest (purchase rates units term) k)
+    × ((k : ℕ) → k < n → getD years k 0 ≡ yearCredit nearest (purchase option pensionAge age term units) k)
     × ((k : ℕ) → n ≤ k → k < 21 → getD years k 0 ≡ 0)
 
 abbrev μ-loop : tie.MeasureT-loop
-μ-loop units term rates own years₀ n₀ years n = term + 1 - n
+μ-loop option pensionAge age term units rate own years₀ n₀ years n = term + 1 - n
 
-turn : (c : tie.In-loop Inv-loop μ-loop)
-    → let a = c .before .before .before .before .args in
-    Turn (a .t1) (a .units) (a .term) (c .before .loop .n) (c .before .before .of-units .result) (getD (a .t1) (c .before .loop .n - 1) 0)
+-- the contract as the code has it, and that its rates fall
+module _ (c : tie.After-of-units Inv-loop μ-loop) where
+  abbrev bought : Purchase
+  bought =
+      let a = c .before .args in
+      purchase (a .option) (a .«pension-age») (a .age) (a .term) (a .units)
+
+  shown : 0 < bought .rate (bought .term)
+  shown = rw (c .before .pre .0) at (c .before .pre .1 .0)
+
+  short : bought .term ≤ 20
+  short = printed _ _ _ _ shown .term-high
+
+  falling : Falling bought
+  falling = rates-fall _ _ _ _ _ shown
+
+  own-paid : c .of-units .result ≡ contribution (ownContribution bought)
+  own-paid = rw (← c .before .pre .0) (c .of-units .ensures)
+
+turn : (c : tie.After-monthly-rate Inv-loop μ-loop)
+    → Turn (bought (c .before .before .before)) (c .before .before .loop .n) (c .before .before .before .of-units .result) (c .monthly-rate .result)
 turn c =
     record {
-      paid = rw (← c .before .before .before .rate-in .ensures) (c .before .before .of-units .ensures);
-      rated = sym (rate-in-at _ _ (c .before .loop .inv .0) (omega (arith, c .before .before .before .before .pre .term-most)));
-      low = c .before .loop .inv .0;
-      within = omega arith;
+      paid = own-paid (c .before .before .before);
+      rated = c .monthly-rate .ensures;
+      low = c .before .before .loop .inv .0;
+      within = c .before .loop-test .taken;
     }
-
-rate-in-requires : tie.Need-rate-in-requires Inv-loop μ-loop
-rate-in-requires c κs = search needs
 
 of-units-requires : tie.Need-of-units-requires Inv-loop μ-loop
 of-units-requires c κs = search needs
 
 loop-holds : tie.Need-loop-holds Inv-loop μ-loop
-loop-holds c =
-    let a = c .before .before .args in (
-      search needs,
-      search needs,
-      search needs,
-      λ k h. rw (first k h) (sym (year-none nearest (purchase (a .t1) (a .units) (a .term)))),
-      λ k h l. getD-replicate 21 k 0 0 l,
-    )
+loop-holds c = (
+  search needs,
+  search needs,
+  search needs,
+  λ k h. rw (first k h) (sym (year-none nearest (bought c))),
+  λ k h l. getD-replicate 21 k 0 0 l,
+)
 
-cast-at : tie.Need-cast-at Inv-loop μ-loop
-cast-at c = search needs
-
-sub-year-credit : tie.Need-sub-year-credit Inv-loop μ-loop
-sub-year-credit c = search needs
-
-mul-year-credit : tie.Need-mul-year-credit Inv-loop μ-loop
-mul-year-credit c = search needs
-
-array-read-year-credit : tie.Need-array-read-year-credit Inv-loop μ-loop
-array-read-year-credit c = omega (arith, c .before .before .before .before .pre .term-most)
+monthly-rate-requires : tie.Need-monthly-rate-requires Inv-loop μ-loop
+monthly-rate-requires c κs = search needs
 
 year-credit-requires : tie.Need-year-credit-requires Inv-loop μ-loop
-year-credit-requires c κs = year-fits _ _ _ _ _ _ (turn c) (c .before .before .before .before .pre)
+year-credit-requires c κs =
+    let b = c .before .before .before in
+    year-fits _ _ _ _ (turn c) (falling b) (b .before .pre .1 .1)
+
+cast-years : tie.Need-cast-years Inv-loop μ-loop
+cast-years c = search needs
 
 mul-years : tie.Need-mul-years Inv-loop μ-loop
 mul-years c = search needs
 
 array-write-years : tie.Need-array-write-years Inv-loop μ-loop
-array-write-years c = search needs
+array-write-years c = omega (arith, short (c .before .before .before .before))
 
 add-n : tie.Need-add-n Inv-loop μ-loop
-add-n c = search needs
+add-n c = omega (arith, short (c .before .before .before .before))
 
 loop-less : tie.Need-loop-less Inv-loop μ-loop
 loop-less c = search needs
 
 loop-again : tie.Need-loop-again Inv-loop μ-loop
 loop-again c =
-    let w = c .before .before .loop in (
+    let b = c .before in
+    let w = b .before .before .loop in (
       search needs,
       search needs,
       simp length-set (w .inv .2),
-      one-more (w .years) _ (w .n) _ (omega arith) (w .inv .3) (this-year _ _ _ _ _ _ (turn (c .before)) _ (c .year-credit .ensures)),
+      one-more (w .years) _ (w .n) _ (omega (arith, short (b .before .before .before))) (w .inv .3) (this-year _ _ _ _ (turn b) _ (c .year-credit .ensures)),
       λ k h l. getD-set-other (w .years) (w .n) k _ 0 (λ z. omega arith) ∙ w .inv .4 k (omega arith) l,
     )
 
 returns : tie.Need-returns Inv-loop μ-loop
 returns c =
+    let b = c .before .before in
     let w = c .before .loop in
-    let a = c .before .before .before .before .args in
-    let p = purchase (a .t1) (a .units) (a .term) in
-    let is = filled p (w .years) (w .n) (omega arith) (w .inv .2) (w .inv .3) (w .inv .4) in
-    let sound = c .before .before .before .before .pre in
-    (is, λ n. rw is (years-most nearest nearest-within-half p (sound .term-most) (sound .falling) n))
+    let is = filled (bought b) (w .years) (w .n) (omega arith) (w .inv .2) (w .inv .3) (w .inv .4) in
+    (is, λ n. rw is (years-most nearest nearest-within-half (bought b) (short b) (falling b) n))
 
 pub year-credits-spec : {M : Type 1} → statement M
 year-credits-spec =
@@ -146,14 +155,11 @@ year-credits-spec =
     (tie.spec
     Inv-loop
     μ-loop
-    rate-in-requires
     of-units-requires
     loop-holds
-    cast-at
-    sub-year-credit
-    mul-year-credit
-    array-read-year-credit
+    monthly-rate-requires
     year-credit-requires
+    cast-years
     mul-years
     array-write-years
     add-n

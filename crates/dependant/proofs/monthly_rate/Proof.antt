@@ -1,0 +1,85 @@
+-- `dependant::monthly_rate` meets its contract: each pension age has its table, and any other has no rates.
+-- Assumes nothing.
+use native.Mathlib.Omega.{arith}
+use borrow.Author.Needs.{needs}
+use Rattle.rates.specs.Rates.{tableOf}
+use Rattle.rates.proofs.Cells.{rate-chosen, rate-out, rate-none}
+use Rattle.dependant.proofs.monthly_rate.Statement.{statement}
+use Rattle.dependant.proofs.monthly_rate.Tie as tie
+
+returns : tie.Need-returns
+returns c = rate-out _ _ _ _ (λ placed. omega arith)
+
+returns-2 : tie.Need-returns-2
+returns-2 c = rate-out _ _ _ _ (λ placed. omega arith)
+
+returns-3 : tie.Need-returns-3
+returns-3 c = rate-out _ _ _ _ (λ placed. omega arith)
+
+returns-4 : tie.Need-returns-4
+returns-4 c = rate-out _ _ _ _ (λ placed. omega arith)
+
+table-65-requires : tie.Need-table-65-requires
+table-65-requires c κs = search needs
+
+entry-65-requires : tie.Need-entry-65-requires
+entry-65-requires c κs = search needs
+
+table-66-requires : tie.Need-table-66-requires
+table-66-requires c κs = search needs
+
+entry-66-requires : tie.Need-entry-66-requires
+entry-66-requires c κs = search needs
+
+table-67-requires : tie.Need-table-67-requires
+table-67-requires c κs = search needs
+
+entry-67-requires : tie.Need-entry-67-requires
+entry-67-requires c κs = search needs
+
+table-68-requires : tie.Need-table-68-requires
+table-68-requires c κs = search needs
+
+entry-68-requires : tie.Need-entry-68-requires
+entry-68-requires c κs = search needs
+
+returns-5 : tie.Need-returns-5
+unfolding tableOf
+returns-5 c = rate-chosen 2 65 _ _ (c .before .before .before .match .keys1) (c .before .before .table-65 .ensures) (c .entry-65 .ensures)
+
+returns-6 : tie.Need-returns-6
+unfolding tableOf
+returns-6 c = rate-chosen 2 66 _ _ (c .before .before .before .match .keys2) (c .before .before .table-66 .ensures) (c .entry-66 .ensures)
+
+returns-7 : tie.Need-returns-7
+unfolding tableOf
+returns-7 c = rate-chosen 2 67 _ _ (c .before .before .before .match .keys3) (c .before .before .table-67 .ensures) (c .entry-67 .ensures)
+
+returns-8 : tie.Need-returns-8
+unfolding tableOf
+returns-8 c = rate-chosen 2 68 _ _ (c .before .before .before .match .keys4) (c .before .before .table-68 .ensures) (c .entry-68 .ensures)
+
+returns-9 : tie.Need-returns-9
+returns-9 c = rate-none _ _ _ _ (λ known. omega arith)
+
+pub monthly-rate-spec : {M : Type 1} → statement M
+monthly-rate-spec =
+    tie.close
+    (tie.spec
+    returns
+    returns-2
+    returns-3
+    returns-4
+    table-65-requires
+    entry-65-requires
+    table-66-requires
+    entry-66-requires
+    table-67-requires
+    entry-67-requires
+    table-68-requires
+    entry-68-requires
+    returns-5
+    returns-6
+    returns-7
+    returns-8
+    returns-9)
