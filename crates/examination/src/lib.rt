@@ -28,10 +28,7 @@ fn refuse(refusal: u32, place: usize) -> Examined
         contribution: ContributionPence::none(),
         status: 0,
         paid: 0,
-        rates: TableRates {
-            lower: 0,
-            upper: 0,
-        },
+        rates: TableRates { lower: 0, upper: 0 },
     }
 }
 

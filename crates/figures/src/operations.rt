@@ -65,7 +65,12 @@ fn blend(row: &[u64]) {
 }
 
 fn rate(row: &[u64]) {
-    let rate = monthly::monthly_rate(narrow(row, 0), narrow(row, 1), narrow(row, 2), narrow(row, 3));
+    let rate = monthly::monthly_rate(
+        narrow(row, 0),
+        narrow(row, 1),
+        narrow(row, 2),
+        narrow(row, 3),
+    );
     line::filled(b"rate* is#", row, [rate as u64, 0, 0, 0, 0, 0]);
 }
 
