@@ -9,8 +9,7 @@ use lib.ListN.{length, replicate}
 use Rattle.rounding.specs.Rounding.{WithinHalf, Monotone}
 use Rattle.rounding.proofs.Laws.{round-whole, combined-most, combined-least}
 use Rattle.money.specs.Limits.{unit}
-use Rattle.years.specs.Years.{Purchase, ownContribution, yearCredits, monthValue}
-use Rattle.years.specs.Published.{Falling}
+use Rattle.years.specs.Years.{Purchase, ownContribution, yearCredits, monthValue, Falling}
 use Rattle.credit.specs.Runs.{_until_, paid, runsFrom, runFrom, runsIn}
 use Rattle.credit.specs.Credit.{earned, creditOver, creditIn}
 use Rattle.years.proofs.Years.{year-none, year-within, years-most, month-most}

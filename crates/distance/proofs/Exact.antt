@@ -8,8 +8,7 @@ use native.Mathlib.Nat.{mul-le-mul-left, le-of-mul-le-mul-right, div-mul-cancel}
 use native.Mathlib.Omega.{arith}
 use lib.ListN.{length}
 use Rattle.money.specs.Limits.{unit}
-use Rattle.years.specs.Years.{Purchase, ownContribution, yearCredit}
-use Rattle.years.specs.Published.{Falling}
+use Rattle.years.specs.Years.{Purchase, ownContribution, yearCredit, Falling}
 use Rattle.credit.specs.Months.{addedFrom}
 use Rattle.years.proofs.Years.{year-none, year-within}
 use Rattle.distance.specs.Exact.{exactYear, exactMonth, exactFrom}

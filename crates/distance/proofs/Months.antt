@@ -8,8 +8,7 @@ use native.Mathlib.Omega.{arith}
 use lib.ListN.{length}
 use Rattle.rounding.specs.Rounding.{WithinHalf, Monotone}
 use Rattle.rounding.proofs.Laws.{blended-none}
-use Rattle.years.specs.Years.{Purchase, yearCredit, yearCredits, monthValue}
-use Rattle.years.specs.Published.{Falling}
+use Rattle.years.specs.Years.{Purchase, yearCredit, yearCredits, monthValue, Falling}
 use Rattle.credit.specs.Credit.{creditOver, creditIn}
 use Rattle.credit.specs.Months.{growth, added}
 use Rattle.years.proofs.Years.{row-year, year-rises}

@@ -10,8 +10,7 @@ use lib.Dec.{leb}
 use lib.ListN.{length, List·getD-eq-default}
 use Rattle.common.proofs.Tests.{by-test}
 use Rattle.rounding.specs.Rounding.{Monotone}
-use Rattle.years.specs.Years.{Purchase, yearCredits, monthValue}
-use Rattle.years.specs.Published.{Falling}
+use Rattle.years.specs.Years.{Purchase, yearCredits, monthValue, Falling}
 use Rattle.credit.specs.Runs.{Run, paid, runsFrom, runFrom, runsIn, startsAfter, runCount}
 use Rattle.credit.proofs.Unbroken.{runs-unbroken}
 use Rattle.distance.proofs.Months.{month-rises}

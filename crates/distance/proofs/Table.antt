@@ -10,8 +10,7 @@ use native.Mathlib.Omega.{arith}
 use lib.ListN.{length}
 use Rattle.rounding.specs.Rounding.{WithinHalf, Monotone}
 use Rattle.money.specs.Limits.{unit}
-use Rattle.years.specs.Years.{Purchase, ownContribution, yearCredit, yearCredits, monthValue}
-use Rattle.years.specs.Published.{Falling}
+use Rattle.years.specs.Years.{Purchase, ownContribution, yearCredit, yearCredits, monthValue, Falling}
 use Rattle.credit.specs.Runs.{paid, startsAfter, runCount}
 use Rattle.credit.specs.Credit.{creditIn}
 use Rattle.years.proofs.Years.{year-none, year-within, year-or-none}

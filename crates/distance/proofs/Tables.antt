@@ -3,8 +3,7 @@
 use mathlib.Core.Path.{_≡_, refl}
 use Prim.Native.Nat.{_≤_, _<_}
 use native.Mathlib.Omega.{arith}
-use Rattle.years.specs.Years.{Purchase}
-use Rattle.years.specs.Published.{Falling}
+use Rattle.years.specs.Years.{Purchase, Falling}
 use Rattle.distance.specs.Distance.{Purchases, Sound}
 
 pub tables : (c : Purchases) → Sound c → (Q : Purchase → Type 0)

@@ -6,8 +6,7 @@ use Prim.Native.Nat.{ℕ, _+_, _*_, _-_, _≤_, _<_}
 use lib.Dec.{eqb}
 use Rattle.common.specs.Choice.{pick}
 use Rattle.rounding.specs.Nearest.{combineBy}
-use Rattle.years.specs.Years.{Purchase}
-use Rattle.years.specs.Published.{Falling}
+use Rattle.years.specs.Years.{Purchase, Falling}
 use Rattle.credit.specs.Credit.{creditIn}
 use Rattle.distance.specs.Fraction.{Fraction}
 use Rattle.distance.specs.Exact.{exactCredit, exactBlend}

@@ -11,7 +11,7 @@ use Rattle.common.proofs.Choice.{either}
 use Rattle.common.proofs.Tests.{never, or-false}
 use Rattle.rounding.proofs.Laws.{combine-most, combine-least}
 use Rattle.money.specs.Limits.{stepPounds}
-use Rattle.rates.proofs.Cells.{rate-none}
+use Rattle.rates.proofs.Lookups.{rate-none}
 use Rattle.rates.proofs.Laws.{rate-most, lump-none, lump-most}
 use Rattle.terms.specs.declared.Terms.{Terms}
 use Rattle.terms.specs.Rate.{rateFor, tableRate, upperRate}
@@ -20,7 +20,7 @@ use Rattle.terms.proofs.Laws.{terms-rules-pass, price-rules-pass, none-refuses,
 use Rattle.election.specs.Price.{contributionAt, contributionIn, contributionOf}
 use Rattle.election.specs.Told.{PensionAgeIn, Accepted}
 
-pub pension-age-in : (t : Terms) → wrongPensionAge t ≡ false → PensionAgeIn t
+pension-age-in : (t : Terms) → wrongPensionAge t ≡ false → PensionAgeIn t
 unfolding wrongPensionAge
 pension-age-in t e =
     let months = or-false _ _ e in
@@ -64,16 +64,17 @@ unfolding tableRate rateFor
 table-rate-most t p =
     either (λ x. x ≤ 456000) (eqb (t .term) 0) (lump-most (t .option) p (t .age)) (omega (arith, rate-most (t .option) p (t .age) (t .term)))
 
--- and there is none for a pension age above 68
+-- nor is the upper one
+pub upper-rate-most : (t : Terms) → upperRate t ≤ 456000
+unfolding upperRate
+upper-rate-most t = either (λ x. x ≤ 456000) (eqb (t .months) 0) (omega arith) (table-rate-most t (t .years + 1))
+
+-- there is none for a pension age above 68
 pub rate-past : (t : Terms) (p : ℕ) → 68 < p → tableRate t p ≡ 0
 unfolding tableRate rateFor
 rate-past t p past =
     either (λ x. x ≡ 0) (eqb (t .term) 0) (lump-none (t .option) p (t .age) (λ r. omega arith))
     (sym (rate-none (t .option) p (t .age) (t .term) (λ known. omega arith)))
-
-pub upper-rate-most : (t : Terms) → upperRate t ≤ 456000
-unfolding upperRate
-upper-rate-most t = either (λ x. x ≤ 456000) (eqb (t .months) 0) (omega arith) (table-rate-most t (t .years + 1))
 
 -- the dearest election: twenty-six times £250 at the greatest rate
 pub contribution-most : (t : Terms) (existing : ℕ) → Accepted t existing → contributionOf t ≤ 11856000

@@ -1,17 +1,10 @@
 -- The laws of the rates, for callers: the print rules both ways, the greatest rates, and how the monthly rates go with term and age.
 -- Assumes nothing.
-use mathlib.Core.List.{List}
-use mathlib.Core.Path.{_≡_, refl, sym, ap, _∙_}
-use mathlib.Core.Bool.{Bool, true, false}
-use Prim.Native.Nat.{ℕ, zero, suc, _+_, _-_, _%_, _≤_, _<_, zero-le}
+use mathlib.Core.Path.{_≡_, refl, sym, _∙_}
+use Prim.Native.Nat.{ℕ, zero, suc, _%_, _≤_, _<_, zero-le}
 use native.Mathlib.Nat.{le-refl, le-trans}
 use native.Mathlib.Decide.{le-ind}
 use native.Mathlib.Omega.{arith}
-use lib.ListN.{getD, replicate, getD-replicate}
-use lib.Dec.{ltb}
-use borrow.Author.Tests.{le-ltb, ltb-true, ltb-false}
-use Rattle.common.specs.Choice.{pick}
-use Rattle.common.proofs.Table.{getD-tabulate}
 use Rattle.rates.specs.Rates.{rateOf, lumpRateOf, Printed, LumpPrinted}
 use Rattle.rates.proofs.Monthly.{Rules, rules, rate-known, rate-placed}
 use Rattle.rates.proofs.LumpSum as lump
@@ -73,7 +66,7 @@ pub lump-shown : (o p age : ℕ) → LumpPrinted o p age → 0 < lumpRateOf o p 
 lump-shown o p age r = omega (arith, lump.rules o p age r .above)
 
 pub lump-none : (o p age : ℕ) → (LumpPrinted o p age → ⊥) → lumpRateOf o p age ≡ 0
-lump-none o p age none = sym (lump.lump-out o p age none)
+lump-none = lump.none
 
 -- the greatest lump sum is £4,560, for option 2 at age 64
 pub lump-most : (o p age : ℕ) → lumpRateOf o p age ≤ 456000
@@ -101,4 +94,6 @@ lump-rises o p a b le last =
 
 -- every pension age has the same lump sum
 pub lump-same : (o p q age : ℕ) → LumpPrinted o p age → LumpPrinted o q age → lumpRateOf o p age ≡ lumpRateOf o q age
-lump-same o p q age r s = lump.entry o p age r ∙ sym (lump.entry o q age s)
+lump-same o p q age r s =
+    lump.entry o p age (r .pension-low) (r .pension-high) (r .age-low) (r .age-high)
+    ∙ sym (lump.entry o q age (s .pension-low) (s .pension-high) (s .age-low) (s .age-high))

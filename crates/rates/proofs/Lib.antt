@@ -1,7 +1,7 @@
 mod Walk
 pub mod Entries
 pub mod Tables
-pub mod Cells
+pub mod Lookups
 mod Monthly
 mod LumpSum
 pub mod Laws

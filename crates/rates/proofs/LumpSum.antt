@@ -1,6 +1,7 @@
--- The rules of Table S: a computed test, and the law that carries it to the lump sum for each option, pension age and age.
+-- The rules of Table S: a computed test, and the law that carries it to the lump sum for each option, pension age and age; and where a lump
+-- sum stands in its column.
 -- Assumes nothing.
-use mathlib.Core.Path.{_≡_, _∙_}
+use mathlib.Core.Path.{_≡_}
 use mathlib.Core.List.{List, [], _∷_}
 use Prim.Native.Nat.{ℕ, suc, _-_, _%_, _≤_, _<_}
 use native.Mathlib.Omega.{arith}
@@ -8,7 +9,7 @@ use lib.Dec.{T, ltb, eqb}
 use lib.ListN.{getD}
 use borrow.Author.Tests.{eqb-true, ltb-true, ltb-false, le-ltb}
 use Rattle.common.proofs.Tests.{by-test}
-use Rattle.rates.specs.Rates.{lumpColumn, lumpCellOf, lumpRateOf, LumpPrinted}
+use Rattle.rates.specs.Rates.{lumpColumn, lumpRateOf, LumpPrinted}
 use Rattle.rates.proofs.Walk.{Rule, always, given, Hold, passes, hold, all, all-at}
 use Rattle.rates.proofs.Entries.{above-0}
 
@@ -24,7 +25,7 @@ rules-of o p age =
 
 -- options 1 and 2, pension ages 65 to 68, ages 16 to 64
 table-passes : T (all (λ o. all (λ p. all (λ age. passes (rules-of o p age)) 16 49) 65 4) 1 2)
-unfolding lumpRateOf lumpCellOf lumpColumn
+unfolding lumpRateOf lumpColumn
 table-passes = tt
 
 facts : (o p age : ℕ) → LumpPrinted o p age → Hold (rules-of o p age)
@@ -35,17 +36,6 @@ facts o p age r =
     (all-at (λ o. all (λ p. all (λ age. passes (rules-of o p age)) 16 49) 65 4) 1 2 table-passes o (omega arith) (omega arith))
     p (omega arith) (omega arith)) age (omega arith) (omega arith))
 
--- where a column has the entry for an age, and that it has none for another
-pub cell-at : (column : List ℕ) (age : ℕ) → 16 ≤ age → age ≤ 64 → lumpCellOf column age ≡ getD column (age - 16) 0
-unfolding lumpCellOf
-cell-at column age low high = rw (le-ltb age 16 low, le-ltb 64 age high)
-
-pub cell-out : (column : List ℕ) (age : ℕ) → (16 ≤ age → age ≤ 64 → ⊥) → lumpCellOf column age ≡ 0
-unfolding lumpCellOf
-cell-out column age out =
-    by-test (ltb age 16) (λ e. rw e)
-    (λ e. by-test (ltb 64 age) (λ f. rw (e, f)) (λ f. absurd (out (ltb-false age 16 e) (ltb-false 64 age f))))
-
 -- only the two options have a column
 has-column : (o k : ℕ) → 0 < getD (lumpColumn o) k 0 → (1 ≤ o) × (o ≤ 2)
 unfolding lumpColumn
@@ -54,7 +44,7 @@ has-column o k h =
     (λ e. by-test (eqb o 2) (λ f. omega (arith, eqb-true o 2 f)) (λ f. absurd (omega (arith, rw (e, f) at h))))
 
 pub printed : (o p age : ℕ) → 0 < lumpRateOf o p age → LumpPrinted o p age
-unfolding lumpRateOf lumpCellOf
+unfolding lumpRateOf
 printed o p age h =
     let a = above-0 (ltb p 65) h in
     let b = above-0 (ltb 68 p) (a .1) in
@@ -63,21 +53,14 @@ printed o p age h =
     let option = has-column o (age - 16) (d .1) in
     omega (arith, ltb-false p 65 (a .0), ltb-false 68 p (b .0), ltb-false age 16 (c .0), ltb-false 64 age (d .0))
 
--- where there is a lump sum it is the entry of the option's column, whatever the pension age
-pub entry : (o p age : ℕ) → LumpPrinted o p age → lumpRateOf o p age ≡ getD (lumpColumn o) (age - 16) 0
-unfolding lumpRateOf lumpCellOf
-entry o p age r =
-    rw (le-ltb p 65 (r .pension-low), le-ltb 68 p (r .pension-high), le-ltb age 16 (r .age-low), le-ltb 64 age (r .age-high))
-
--- the entry of the column that an option has, at a pension age that has lump sums
-pub lump-chosen : {r option : ℕ} {column : List ℕ} (o p age : ℕ) → 65 ≤ p → p ≤ 68 → option ≡ o → column ≡ lumpColumn o
-    → r ≡ lumpCellOf column age → r ≡ lumpRateOf option p age
+-- within the table's ages the lump sum is the entry of the option's column, whatever the pension age
+pub entry : (o p age : ℕ) → 65 ≤ p → p ≤ 68 → 16 ≤ age → age ≤ 64 → lumpRateOf o p age ≡ getD (lumpColumn o) (age - 16) 0
 unfolding lumpRateOf
-lump-chosen o p age low high eo ec e = e ∙ rw (ec, eo, le-ltb p 65 low, le-ltb 68 p high)
+entry o p age p-low p-high low high = rw (le-ltb p 65 p-low, le-ltb 68 p p-high, le-ltb age 16 low, le-ltb 64 age high)
 
 -- and 0 where none is printed
-pub lump-out : (o p age : ℕ) → (LumpPrinted o p age → ⊥) → 0 ≡ lumpRateOf o p age
-lump-out o p age out =
+pub none : (o p age : ℕ) → (LumpPrinted o p age → ⊥) → lumpRateOf o p age ≡ 0
+none o p age out =
     by-test (ltb 0 (lumpRateOf o p age)) (λ e. absurd (out (printed o p age (ltb-true 0 _ e))))
     (λ e. omega (arith, ltb-false 0 (lumpRateOf o p age) e))
 

@@ -3,17 +3,16 @@
 use mathlib.Core.List.{List}
 use Prim.Native.Nat.{ℕ, _+_, _/_}
 use Rattle.rounding.specs.Nearest.{nearest}
-use Rattle.rates.specs.Rates.{rateOf}
 use Rattle.terms.specs.declared.Terms.{Terms}
 use Rattle.money.specs.Limits.{stepPounds}
 use Rattle.years.specs.Years.{Purchase}
+use Rattle.years.specs.Published.{purchase}
 use Rattle.distance.specs.Fraction.{Fraction}
 use Rattle.distance.specs.Distance.{Purchases, creditBy, exactly}
 
 -- what the monthly table of a whole pension age knows of the election: its rate at each term for that age and option
 abbrev pub purchaseIn : Terms → ℕ → Purchase
-purchaseIn t pensionAge =
-    record { rate = rateOf (t .option) pensionAge (t .age); units = t .amount / stepPounds; term = t .term }
+purchaseIn t pensionAge = purchase (t .option) pensionAge (t .age) (t .term) (t .amount / stepPounds)
 
 -- the odd months of the pension age, and its two neighbouring tables
 abbrev pub purchasesOf : Terms → Purchases

@@ -91,6 +91,7 @@ pub monthly-rate : (t : Terms) (p : ℕ) → 0 < t .term → tableRate t p ≡ r
 unfolding tableRate rateFor
 monthly-rate t p monthly = rw (ne-eqb (t .term) 0 (λ z. omega arith))
 
+-- with odd months the upper rate is that of the upper pension age
 pub upper-rate-odd : (t : Terms) → (t .months ≡ 0 → ⊥) → upperRate t ≡ tableRate t (t .years + 1)
 unfolding upperRate
 upper-rate-odd t odd = rw (ne-eqb (t .months) 0 odd)

@@ -10,7 +10,7 @@ use borrow.Author.Tests.{eq-eqb, ne-eqb, eqb-true, eqb-false}
 use Rattle.common.specs.Choice.{pick}
 use Rattle.common.proofs.Choice.{either}
 use Rattle.common.proofs.Tests.{by-test, never, or-true}
-use Rattle.rates.proofs.Laws.{printed, shown, lump-printed, lump-shown}
+use Rattle.rates.proofs.Laws.{printed, shown, lump-shown, lump-none}
 use Rattle.terms.specs.declared.Terms.{Terms}
 use Rattle.terms.specs.Rate.{tableRate}
 use Rattle.terms.specs.Rules.{missingUpper, noRate, noUpperRate, wrongAmount, aboveCap, termsRefusal, priceRefusal, refusalOf}
@@ -24,20 +24,20 @@ none (suc n) h = absurd (h (omega arith))
 
 -- a rate is 0 just where nothing is printed
 module _ (t : Terms) (p : ℕ) where
-  lump-none : t .term ≡ 0 → tableRate t p ≡ 0 → LumpThere t p → ⊥
-  lump-none z e there = omega (arith, lump-rate t p z, lump-shown (t .option) p (t .age) there)
+  zero-lump : t .term ≡ 0 → tableRate t p ≡ 0 → LumpThere t p → ⊥
+  zero-lump z e there = omega (arith, lump-rate t p z, lump-shown (t .option) p (t .age) there)
 
   none-lump : t .term ≡ 0 → (LumpThere t p → ⊥) → tableRate t p ≡ 0
-  none-lump z no-lump = lump-rate t p z ∙ none _ (λ h. no-lump (lump-printed (t .option) p (t .age) h))
+  none-lump z no-lump = lump-rate t p z ∙ lump-none (t .option) p (t .age) no-lump
 
-  monthly-none : 0 < t .term → tableRate t p ≡ 0 → MonthlyThere t p → ⊥
-  monthly-none m e there = omega (arith, monthly-rate t p m, shown (t .option) p (t .age) (t .term) there)
+  zero-monthly : 0 < t .term → tableRate t p ≡ 0 → MonthlyThere t p → ⊥
+  zero-monthly m e there = omega (arith, monthly-rate t p m, shown (t .option) p (t .age) (t .term) there)
 
   none-monthly : 0 < t .term → (MonthlyThere t p → ⊥) → tableRate t p ≡ 0
   none-monthly m no-rate = monthly-rate t p m ∙ none _ (λ h. no-rate (printed (t .option) p (t .age) (t .term) h))
 
   some-monthly : 0 < t .term → MonthlyThere t p → eqb (tableRate t p) 0 ≡ false
-  some-monthly m there = ne-eqb (tableRate t p) 0 (λ e. monthly-none m e there)
+  some-monthly m there = ne-eqb (tableRate t p) 0 (λ e. zero-monthly m e there)
 
 module _ (t : Terms) where
   -- the rate of the upper pension age
@@ -62,14 +62,14 @@ module _ (t : Terms) where
       inl (
         z,
         by-test (eqb (tableRate t (t .years)) 0)
-            (λ lower. (t .years, (inl refl, lump-none t (t .years) z (eqb-true _ 0 lower))))
+            (λ lower. (t .years, (inl refl, zero-lump t (t .years) z (eqb-true _ 0 lower))))
             (λ lower.
             let m = upper-missing (rw lower at some) in
-            (t .years + 1, (inr (refl, m .0), lump-none t (t .years + 1) z (m .1)))),
+            (t .years + 1, (inr (refl, m .0), zero-lump t (t .years + 1) z (m .1)))),
       ))
       (λ monthly.
       let m : 0 < t .term = omega (arith, eqb-false (t .term) 0 monthly) in
-      inr (m, monthly-none t (t .years) m (eqb-true _ 0 (rw monthly at e))))
+      inr (m, zero-monthly t (t .years) m (eqb-true _ 0 (rw monthly at e))))
 
   says-no-rate : LacksRate t → noRate t ≡ true
   unfolding noRate
@@ -93,7 +93,7 @@ module _ (t : Terms) where
       let m : 0 < t .term = omega (arith, eqb-false (t .term) 0 monthly) in
       let u = upper-missing (rw monthly at e) in
       let lower = printed (t .option) (t .years) (t .age) (t .term) (rw (monthly-rate t (t .years) m) at (lower-rate t rate)) in
-      (m, (lower, (u .0, monthly-none t (t .years + 1) m (u .1)))))
+      (m, (lower, (u .0, zero-monthly t (t .years + 1) m (u .1)))))
 
   says-lower : LacksUpperRate t → noRate t ≡ false
   unfolding noRate

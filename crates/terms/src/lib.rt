@@ -1,9 +1,9 @@
-// The terms of an election, and the rules that refuse them before a rate is looked up.
+// The terms of an election, and the rules on them that need no rate.
 ghost use mathlib.Core.Path.{_≡_};
 ghost use Rattle.terms.specs.Rules.{wrongOption, wrongPensionAge, wrongPayer, termsRefusal};
 
 // Age in whole years, pension age in years and months, 1 personal or 2 with dependant's pension, 1 member or 2 employer,
-// years of monthly payments or 0 for a lump sum, pounds of pension a year. Any numbers: `election::price` refuses bad ones.
+// years of monthly payments or 0 for a lump sum, pounds of pension a year. Any numbers: `election::first_refusal` refuses bad ones.
 pub struct Terms {
     pub age: u32,
     pub years: u32,

@@ -4,7 +4,8 @@ use Prim.Native.Nat.{ℕ, suc, _<_}
 use native.Mathlib.Omega.{arith}
 use Rattle.rates.specs.Rates.{rateOf}
 use Rattle.rates.proofs.Laws.{rate-falls}
-use Rattle.years.specs.Published.{purchase, Falling}
+use Rattle.years.specs.Years.{Falling}
+use Rattle.years.specs.Published.{purchase}
 
 pub rates-fall : (option pensionAge age term units : ℕ) → 0 < rateOf option pensionAge age term
     → Falling (purchase option pensionAge age term units)

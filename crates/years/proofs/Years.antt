@@ -15,8 +15,7 @@ use Rattle.common.proofs.Table.{length-tabulate, getD-tabulate}
 use Rattle.rounding.specs.Rounding.{WithinHalf, Monotone}
 use Rattle.rounding.proofs.Laws.{round-most, blended-most}
 use Rattle.money.specs.Limits.{unit}
-use Rattle.years.specs.Years.{Purchase, ownContribution, yearCredit, yearCredits, monthValue}
-use Rattle.years.specs.Published.{Falling}
+use Rattle.years.specs.Years.{Purchase, ownContribution, yearCredit, yearCredits, monthValue, Falling}
 
 module _ (round : ℕ → ℕ → ℕ) (p : Purchase) where
   pub year-none : yearCredit round p 0 ≡ 0

@@ -2,7 +2,7 @@
 -- any month between them. The rounding is an argument: Settle takes `nearest`.
 -- Assumes nothing.
 use mathlib.Core.List.{List}
-use Prim.Native.Nat.{ℕ, suc, _*_, _/_, _%_}
+use Prim.Native.Nat.{ℕ, suc, _*_, _/_, _%_, _≤_, _<_}
 use lib.Dec.{leb, eqb}
 use lib.ListN.{getD}
 use Rattle.common.specs.Choice.{pick}
@@ -15,6 +15,11 @@ pub record Purchase : Type 0 where
   pub rate : ℕ → ℕ
   pub units : ℕ
   pub term : ℕ
+
+-- The rule for the rows of monthly tables: up to the term every rate is above 0, and none is more than the one before.
+pub record Falling (p : Purchase) : Type 0 where
+  pub positive : (n : ℕ) → 0 < n → n ≤ p .term → 0 < p .rate n
+  pub falls : (n : ℕ) → 0 < n → n < p .term → p .rate (suc n) ≤ p .rate n
 
 -- that table's own contribution
 abbrev pub ownContribution : Purchase → ℕ

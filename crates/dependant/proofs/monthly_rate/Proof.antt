@@ -3,7 +3,7 @@
 use native.Mathlib.Omega.{arith}
 use borrow.Author.Needs.{needs}
 use Rattle.rates.specs.Rates.{tableOf}
-use Rattle.rates.proofs.Cells.{rate-chosen, rate-out, rate-none}
+use Rattle.rates.proofs.Lookups.{rate-chosen, rate-out, rate-none}
 use Rattle.dependant.proofs.monthly_rate.Statement.{statement}
 use Rattle.dependant.proofs.monthly_rate.Tie as tie
 

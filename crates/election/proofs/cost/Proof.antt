@@ -1,7 +1,7 @@
 -- `election::cost` meets its contract: at most twenty-six times £250 at a bounded rate fit, and the upper table counts with odd months alone.
 -- Assumes nothing.
-use mathlib.Core.Path.{_≡_, refl, sym, ap, _∙_}
-use Prim.Native.Nat.{ℕ, _+_, _*_, _/_, _≤_, _<_, _^_}
+use mathlib.Core.Path.{_≡_, ap, _∙_}
+use Prim.Native.Nat.{ℕ, _*_, _/_, _≤_, _<_, _^_}
 use native.Mathlib.Nat.{mul-le-mul}
 use native.Mathlib.Omega.{arith}
 use borrow.Author.Needs.{needs}
@@ -9,7 +9,6 @@ use Rattle.money.specs.Limits.{stepPounds, capPounds}
 use Rattle.rounding.specs.Nearest.{combine}
 use Rattle.rounding.proofs.Laws.{combine-upper}
 use Rattle.terms.specs.declared.Terms.{Terms}
-use Rattle.terms.specs.Rate.{tableRate, upperRate}
 use Rattle.terms.proofs.Laws.{upper-rate-odd}
 use Rattle.election.specs.declared.TableRates.{TableRates}
 use Rattle.election.specs.Price.{contributionAt, contributionIn, contributionOf, ratesOf}

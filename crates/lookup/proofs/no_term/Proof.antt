@@ -1,4 +1,4 @@
--- `lookup::no_term` meets its contract: the term has no column.
+-- `lookup::no_term` meets its contract: the term has no place.
 -- Assumes nothing.
 use mathlib.Core.Path.{sym}
 use native.Mathlib.Omega.{arith}

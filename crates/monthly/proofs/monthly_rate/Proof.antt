@@ -2,7 +2,7 @@
 -- Assumes nothing.
 use native.Mathlib.Omega.{arith}
 use borrow.Author.Needs.{needs}
-use Rattle.rates.proofs.Cells.{rate-none}
+use Rattle.rates.proofs.Lookups.{rate-none}
 use Rattle.monthly.proofs.monthly_rate.Statement.{statement}
 use Rattle.monthly.proofs.monthly_rate.Tie as tie
 

@@ -18,8 +18,8 @@ use Rattle.money.specs.declared.ContributionPence.{ContributionPence}
 use Rattle.money.specs.Money.{contribution}
 use Rattle.money.specs.Limits.{unit}
 use Rattle.rates.proofs.Laws.{printed}
-use Rattle.years.specs.Years.{Purchase, ownContribution, yearCredit, yearCredits}
-use Rattle.years.specs.Published.{purchase, Falling}
+use Rattle.years.specs.Years.{Purchase, ownContribution, yearCredit, yearCredits, Falling}
+use Rattle.years.specs.Published.{purchase}
 use Rattle.years.proofs.Published.{rates-fall}
 use Rattle.years.proofs.Years.{year-none, year-within, year-past, own-most, years-most}
 use Rattle.years.proofs.year_credits.Statement.{statement}
