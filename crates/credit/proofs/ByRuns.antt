@@ -10,8 +10,8 @@ use lib.Dec.{eqb}
 use lib.ListN.{length, drop, getD, length-drop, drop-of-length-le}
 use lib.Seq.{drop-cons, drop-drop}
 use Rattle.common.proofs.Tests.{by-test}
-use Rattle.marks.specs.Reading.{paidRun}
-use Rattle.marks.proofs.Runs.{run-goes-on, run-inside}
+use Rattle.paid_runs.specs.PaidRun.{paidRun}
+use Rattle.paid_runs.proofs.PaidRun.{run-goes-on, run-inside}
 use Rattle.credit.specs.Runs.{_until_, paid, runsFrom, runFrom}
 use Rattle.credit.specs.Credit.{earned}
 

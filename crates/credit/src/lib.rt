@@ -72,7 +72,7 @@ pub fn credit_over(years: [u32; 21], marks: &[u8]) -> PensionPence
     let mut i = 0;
     while i < marks.len() {
         if marks[i] == 1 {
-            let end = marks::run_end(marks, i);
+            let end = paid_runs::run_end(marks, i);
             let before = years::month_value(years, i as u32);
             sum = sum.plus(years::month_value(years, end as u32).less(before));
             i = end;

@@ -1,7 +1,7 @@
 -- The rules of Table S: a computed test, and the law that carries it to the lump sum for each option, pension age and age; and where a lump
 -- sum stands in its column.
 -- Assumes nothing.
-use mathlib.Core.Path.{_≡_}
+use mathlib.Core.Path.{_≡_, sym, _∙_}
 use mathlib.Core.List.{List, [], _∷_}
 use Prim.Native.Nat.{ℕ, suc, _-_, _%_, _≤_, _<_}
 use native.Mathlib.Omega.{arith}
@@ -57,6 +57,11 @@ printed o p age h =
 pub entry : (o p age : ℕ) → 65 ≤ p → p ≤ 68 → 16 ≤ age → age ≤ 64 → lumpRateOf o p age ≡ getD (lumpColumn o) (age - 16) 0
 unfolding lumpRateOf
 entry o p age p-low p-high low high = rw (le-ltb p 65 p-low, le-ltb 68 p p-high, le-ltb age 16 low, le-ltb 64 age high)
+
+-- so it is what stands there in the column that was chosen
+pub chosen : {r option : ℕ} {column : List ℕ} (o p age : ℕ) → 65 ≤ p → p ≤ 68 → 16 ≤ age → age ≤ 64 → option ≡ o → column ≡ lumpColumn o
+    → r ≡ getD column (age - 16) 0 → r ≡ lumpRateOf option p age
+chosen o p age p-low p-high low high eo ec e = e ∙ rw (ec, eo) (sym (entry o p age p-low p-high low high))
 
 -- and 0 where none is printed
 pub none : (o p age : ℕ) → (LumpPrinted o p age → ⊥) → lumpRateOf o p age ≡ 0

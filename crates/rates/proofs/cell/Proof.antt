@@ -1,11 +1,10 @@
 -- `rates::cell` meets its contract: the line is that of the age.
 -- Assumes nothing.
-use mathlib.Core.Path.{_≡_, sym, ap, _∙_}
+use mathlib.Core.Path.{_≡_, ap}
 use Prim.Native.Nat.{_-_}
 use native.Mathlib.Omega.{arith}
 use borrow.Author.Needs.{needs}
 use lib.ListN.{getD}
-use Rattle.rates.proofs.LumpSum.{entry}
 use Rattle.rates.proofs.cell.Statement.{statement}
 use Rattle.rates.proofs.cell.Tie as tie
 
@@ -17,10 +16,9 @@ element-copy-out-result c = search needs
 
 returns : tie.Need-returns
 returns c =
-    let p = c .before .pre in
     let a = c .before .args in
     let same : a .line ≡ a .age - 16 = omega arith in
-    ap (λ k. getD (a .sums .now) k 0) same ∙ rw (p .0) (sym (entry (a .option) (a .«pension-age») (a .age) (p .1 .0) (p .1 .1) (omega arith) (omega arith)))
+    ap (λ k. getD (a .sums .now) k 0) same
 
 pub cell-spec : {M : Type 1} → statement M
 cell-spec = tie.close (tie.spec mul-result element-copy-out-result returns)

@@ -11,8 +11,8 @@ use lib.Dec.{leb, eqb, leb·zero, leb·suc-zero, leb·suc-suc}
 use lib.ListN.{length, drop, getD}
 use lib.Seq.{drop-drop}
 use Rattle.common.proofs.Tests.{by-test}
-use Rattle.marks.specs.Reading.{paidRun}
-use Rattle.marks.proofs.Runs.{run-goes-on, run-stops, run-past}
+use Rattle.paid_runs.specs.PaidRun.{paidRun}
+use Rattle.paid_runs.proofs.PaidRun.{run-goes-on, run-stops, run-past}
 
 -- or-ed numbers are 0 where both are
 or-none : (a b : ℕ) → eqb (bitOr a b) 0 ≡ (eqb a 0 && eqb b 0)

@@ -1,10 +1,10 @@
--- `marks::eight_paid` meets its contract.
+-- `paid_runs::eight_paid` meets its contract.
 -- Assumes nothing.
 use denote.Ref.{now}
 use borrow.Author.Needs.{needs}
-use Rattle.marks.proofs.Eight.{run-of-eight}
-use Rattle.marks.proofs.eight_paid.Statement.{statement}
-use Rattle.marks.proofs.eight_paid.Tie as tie
+use Rattle.paid_runs.proofs.Eight.{run-of-eight}
+use Rattle.paid_runs.proofs.eight_paid.Statement.{statement}
+use Rattle.paid_runs.proofs.eight_paid.Tie as tie
 
 shared-slice-read-a : tie.Need-shared-slice-read-a
 shared-slice-read-a c = search needs

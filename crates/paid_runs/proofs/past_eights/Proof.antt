@@ -1,4 +1,4 @@
--- `marks::past_eights` meets its contract. The loop's invariant is the promise: the run ends at the same place from either.
+-- `paid_runs::past_eights` meets its contract. The loop's invariant is the promise: the run ends at the same place from either.
 -- Assumes nothing.
 use mathlib.Core.Path.{_≡_, sym, _∙_}
 use Prim.Native.Nat.{_+_, _-_}
@@ -7,10 +7,10 @@ use denote.Ref.{now}
 use borrow.Author.Needs.{needs}
 use borrow.Author.Tests.{not-false}
 use lib.ListN.{length, drop}
-use Rattle.marks.specs.Reading.{paidRun}
-use Rattle.marks.proofs.Eight.{past-eight}
-use Rattle.marks.proofs.past_eights.Statement.{statement}
-use Rattle.marks.proofs.past_eights.Tie as tie
+use Rattle.paid_runs.specs.PaidRun.{paidRun}
+use Rattle.paid_runs.proofs.Eight.{past-eight}
+use Rattle.paid_runs.proofs.past_eights.Statement.{statement}
+use Rattle.paid_runs.proofs.past_eights.Tie as tie
 
 abbrev Inv-loop : tie.InvT-loop
 Inv-loop marks from i₀ i = i + paidRun (drop i marks) ≡ from + paidRun (drop from marks)

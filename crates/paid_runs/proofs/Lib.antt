@@ -1,0 +1,2 @@
+pub mod PaidRun
+mod Eight
