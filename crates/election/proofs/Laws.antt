@@ -11,7 +11,7 @@ use Rattle.common.proofs.Choice.{either}
 use Rattle.common.proofs.Tests.{never, or-false}
 use Rattle.rounding.proofs.Laws.{combine-most, combine-least}
 use Rattle.money.specs.Limits.{stepPounds}
-use Rattle.rates.proofs.Lookups.{rate-none}
+use Rattle.rates.proofs.Lookups.{rate-no-table}
 use Rattle.rates.proofs.Laws.{rate-most, lump-none, lump-most}
 use Rattle.terms.specs.declared.Terms.{Terms}
 use Rattle.terms.specs.Rate.{rateFor, tableRate, upperRate}
@@ -74,7 +74,7 @@ pub rate-past : (t : Terms) (p : ℕ) → 68 < p → tableRate t p ≡ 0
 unfolding tableRate rateFor
 rate-past t p past =
     either (λ x. x ≡ 0) (eqb (t .term) 0) (lump-none (t .option) p (t .age) (λ r. omega arith))
-    (sym (rate-none (t .option) p (t .age) (t .term) (λ known. omega arith)))
+    (sym (rate-no-table (t .option) p (t .age) (t .term) (λ known. omega arith)))
 
 -- the dearest election: twenty-six times £250 at the greatest rate
 pub contribution-most : (t : Terms) (existing : ℕ) → Accepted t existing → contributionOf t ≤ 11856000

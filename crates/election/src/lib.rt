@@ -1,5 +1,5 @@
 // The rates that the terms of an election go by, the first rule that refuses them, and what they cost. A caller asks for these in this
-// order; `rates_of`, `first_refusal` and `cost` are small enough to be inlined there. `rate_at` is not, so it takes fields and not the terms.
+// order; `rates_of`, `first_refusal` and `cost` are small enough to be inlined there. `rate_at` is not, so it takes fields of the terms.
 ghost use mathlib.Core.Path.{_≡_};
 ghost use Prim.Native.Nat.{_≤_};
 ghost use Rattle.money.specs.Money.{contribution};

@@ -1,5 +1,5 @@
-// The lump sum of Table S, in pence per £250 of pension a year. The monthly tables in code are in `personal` and `dependant`; `lookup` says
-// how a table is read.
+// The lump sum of Table S, in pence per £250 of pension a year, read as `lookup` reads a monthly table. Those are in `personal` and
+// `dependant`.
 ghost use mathlib.Core.Path.{_≡_};
 ghost use Prim.Native.Nat.{_+_, _-_, _≤_, _<_};
 ghost use lib.ListN.{getD};

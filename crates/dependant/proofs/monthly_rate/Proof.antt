@@ -3,7 +3,7 @@
 use native.Mathlib.Omega.{arith}
 use borrow.Author.Needs.{needs}
 use Rattle.rates.specs.Rates.{tableOf}
-use Rattle.rates.proofs.Lookups.{rate-chosen, rate-out, rate-none}
+use Rattle.rates.proofs.Lookups.{rate-chosen, rate-out, rate-no-table}
 use Rattle.dependant.proofs.monthly_rate.Statement.{statement}
 use Rattle.dependant.proofs.monthly_rate.Tie as tie
 
@@ -60,7 +60,7 @@ unfolding tableOf
 returns-8 c = rate-chosen 2 68 _ _ (c .before .before .before .match .keys4) (c .before .before .table-68 .ensures) (c .entry-68 .ensures)
 
 returns-9 : tie.Need-returns-9
-returns-9 c = rate-none _ _ _ _ (λ known. omega arith)
+returns-9 c = rate-no-table _ _ _ _ (λ known. omega arith)
 
 pub monthly-rate-spec : {M : Type 1} → statement M
 monthly-rate-spec =

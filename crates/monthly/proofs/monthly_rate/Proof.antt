@@ -2,7 +2,7 @@
 -- Assumes nothing.
 use native.Mathlib.Omega.{arith}
 use borrow.Author.Needs.{needs}
-use Rattle.rates.proofs.Lookups.{rate-none}
+use Rattle.rates.proofs.Lookups.{rate-no-table}
 use Rattle.monthly.proofs.monthly_rate.Statement.{statement}
 use Rattle.monthly.proofs.monthly_rate.Tie as tie
 
@@ -19,7 +19,7 @@ returns-2 : tie.Need-returns-2
 returns-2 c = rw (c .before .match .keys2) (c .monthly-rate2 .ensures)
 
 returns-3 : tie.Need-returns-3
-returns-3 c = rate-none _ _ _ _ (λ known. omega arith)
+returns-3 c = rate-no-table _ _ _ _ (λ known. omega arith)
 
 pub monthly-rate-spec : {M : Type 1} → statement M
 monthly-rate-spec = tie.close (tie.spec monthly-rate-requires monthly-rate-requires-2 returns returns-2 returns-3)
