@@ -1,9 +1,9 @@
 // Pension a year and contribution, both in pence. Each has its own arithmetic, and nothing adds one to the other; what a contribution
-// buys is the one way between them.
+// buys and what a pension costs are the two ways between them.
 ghost use mathlib.Core.Path.{_≡_};
 ghost use Prim.Native.Nat.{_+_, _*_, _-_, _/_, _<_, _^_};
 ghost use lib.Dec.{ltb};
-ghost use Rattle.rounding.specs.Nearest.{nearest, blend, combine};
+ghost use Rattle.rounding.specs.Nearest.{halfUp, nearest, blend, combine};
 ghost use Rattle.money.specs.Limits.{unit};
 ghost use Rattle.money.specs.Money.{pension, contribution};
 
@@ -66,6 +66,22 @@ impl PensionPence {
             return 0;
         }
         self.0 / step.0
+    }
+
+    // This times so many thousandths, a half penny going up.
+    pub fn increased(self, thousandths: u32) -> Self
+        requires { ⌜ self .0 < 2 ^ 32 ⌝ }
+        ensures { λ r. ⌜ r ≡ pension (halfUp (self .0 * thousandths) 1000) ⌝ }
+    {
+        PensionPence(rounding::half_up(self.0 * thousandths as u64, 1000))
+    }
+
+    // What it costs at a rate in twelfths of a penny for each unit, a half penny going up.
+    pub fn costs(self, twelfths: u64) -> ContributionPence
+        requires { ⌜ self .0 * twelfths < 2 ^ 64 ⌝ }
+        ensures { λ r. ⌜ r ≡ contribution (halfUp (self .0 * twelfths) (12 * unit)) ⌝ }
+    {
+        ContributionPence(rounding::half_up(self.0 * twelfths, 12 * UNIT))
     }
 
     // m twelfths of the way to another.

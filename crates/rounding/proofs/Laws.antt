@@ -12,12 +12,12 @@ use Rattle.rounding.specs.Rounding.{WithinHalf}
 use Rattle.rounding.proofs.InForce.{nearest-within-half}
 
 -- twelfths m and 12 − m of figures that are at most u, or at least l
-weighted-most : (m lo hi u : ℕ) → m ≤ 12 → lo ≤ u → hi ≤ u → (12 - m) * lo + m * hi ≤ u * 12
+pub weighted-most : (m lo hi u : ℕ) → m ≤ 12 → lo ≤ u → hi ≤ u → (12 - m) * lo + m * hi ≤ u * 12
 weighted-most m lo hi u h p q =
     let s : (12 - m) + m ≡ 12 = omega arith in
     omega (arith, mul-le-mul-left (12 - m) p, mul-le-mul-left m q, ap (λ t. t * u) s)
 
-weighted-least : (m lo hi l : ℕ) → m ≤ 12 → l ≤ lo → l ≤ hi → l * 12 ≤ (12 - m) * lo + m * hi
+pub weighted-least : (m lo hi l : ℕ) → m ≤ 12 → l ≤ lo → l ≤ hi → l * 12 ≤ (12 - m) * lo + m * hi
 weighted-least m lo hi l h p q =
     let s : (12 - m) + m ≡ 12 = omega arith in
     omega (arith, mul-le-mul-left (12 - m) p, mul-le-mul-left m q, ap (λ t. t * l) s)
@@ -30,7 +30,7 @@ module _ (round : ℕ → ℕ → ℕ) (half : WithinHalf round) where
       omega (arith, lt-of-mul-lt-mul-left (2 * d) l)
 
   -- a quotient of at least q rounds to at least q
-  round-least : (n d q : ℕ) → 0 < d → q * d ≤ n → q ≤ round n d
+  pub round-least : (n d q : ℕ) → 0 < d → q * d ≤ n → q ≤ round n d
   round-least n d q d0 h =
       let l : 2 * d * q < 2 * d * (round n d + 1) = omega (arith, half .below n d d0) in
       omega (arith, lt-of-mul-lt-mul-left (2 * d) l)

@@ -98,7 +98,7 @@ upper-rate-odd t odd = rw (ne-eqb (t .months) 0 odd)
 
 -- the needed rates are there where 5 and 6 pass
 
-upper-there : (t : Terms) (upper : ℕ) → missingUpper t upper ≡ false → (t .months ≡ 0 → ⊥) → 0 < upper
+pub upper-there : (t : Terms) (upper : ℕ) → missingUpper t upper ≡ false → (t .months ≡ 0 → ⊥) → 0 < upper
 upper-there t upper e odd = omega (arith, eqb-false upper 0 (rw (ne-eqb (t .months) 0 odd) at e))
 
 module _ (t : Terms) (rate : noRate t ≡ false) where

@@ -39,19 +39,17 @@ module _ (t : Terms) (p : ℕ) where
   some-monthly : 0 < t .term → MonthlyThere t p → eqb (tableRate t p) 0 ≡ false
   some-monthly m there = ne-eqb (tableRate t p) 0 (λ e. zero-monthly m e there)
 
-module _ (t : Terms) where
-  -- the rate of the upper pension age
-  abbrev upper : ℕ
-  upper = tableRate t (t .years + 1)
-
-  upper-missing : missingUpper t upper ≡ true → (t .months ≡ 0 → ⊥) × (upper ≡ 0)
+-- the upper rate is missing just where odd months need it and there is none
+module _ (t : Terms) (upper : ℕ) where
+  pub upper-missing : missingUpper t upper ≡ true → (t .months ≡ 0 → ⊥) × (upper ≡ 0)
   upper-missing e =
       by-test (eqb (t .months) 0) (λ whole. never (rw whole at e))
       (λ odd. (eqb-false (t .months) 0 odd, eqb-true upper 0 (rw odd at e)))
 
-  missing-upper : (t .months ≡ 0 → ⊥) → upper ≡ 0 → missingUpper t upper ≡ true
+  pub missing-upper : (t .months ≡ 0 → ⊥) → upper ≡ 0 → missingUpper t upper ≡ true
   missing-upper odd e = rw (ne-eqb (t .months) 0 odd, eq-eqb upper 0 e)
 
+module _ (t : Terms) where
   no-rate-says : noRate t ≡ true → LacksRate t
   unfolding noRate
   no-rate-says e =
@@ -64,7 +62,7 @@ module _ (t : Terms) where
         by-test (eqb (tableRate t (t .years)) 0)
             (λ lower. (t .years, (inl refl, zero-lump t (t .years) z (eqb-true _ 0 lower))))
             (λ lower.
-            let m = upper-missing (rw lower at some) in
+            let m = upper-missing t _ (rw lower at some) in
             (t .years + 1, (inr (refl, m .0), zero-lump t (t .years + 1) z (m .1)))),
       ))
       (λ monthly.
@@ -81,7 +79,7 @@ module _ (t : Terms) where
       rw (eq-eqb (t .term) 0 z)
       (⊎-elim
       (λ e. rw (eq-eqb (tableRate t (t .years)) 0 (rw e at there)))
-      (λ e. rw (missing-upper (e .1) (rw (e .0) at there)) (or-true (eqb (tableRate t (t .years)) 0)))
+      (λ e. rw (missing-upper t _ (e .1) (rw (e .0) at there)) (or-true (eqb (tableRate t (t .years)) 0)))
       (l .1 .1 .0)))
       (λ m. rw (ne-eqb (t .term) 0 (λ z. omega (arith, m .0)), eq-eqb (tableRate t (t .years)) 0 (none-monthly t (t .years) (m .0) (m .1))))
 
@@ -91,7 +89,7 @@ module _ (t : Terms) where
       by-test (eqb (t .term) 0) (λ lump. never (rw lump at e))
       (λ monthly.
       let m : 0 < t .term = omega (arith, eqb-false (t .term) 0 monthly) in
-      let u = upper-missing (rw monthly at e) in
+      let u = upper-missing t _ (rw monthly at e) in
       let lower = printed (t .option) (t .years) (t .age) (t .term) (rw (monthly-rate t (t .years) m) at (lower-rate t rate)) in
       (m, (lower, (u .0, zero-monthly t (t .years + 1) m (u .1)))))
 
@@ -102,7 +100,7 @@ module _ (t : Terms) where
   says-no-upper : LacksUpperRate t → noUpperRate t ≡ true
   unfolding noUpperRate
   says-no-upper n =
-      rw (ne-eqb (t .term) 0 (λ z. omega (arith, n .0)), missing-upper (n .1 .1 .0) (none-monthly t (t .years + 1) (n .0) (n .1 .1 .1)))
+      rw (ne-eqb (t .term) 0 (λ z. omega (arith, n .0)), missing-upper t _ (n .1 .1 .0) (none-monthly t (t .years + 1) (n .0) (n .1 .1 .1)))
 
 -- a test that refuses with a number that the rest of the chain does not give
 refuses-just : (b : Bool) (n rest : ℕ) → (rest ≡ n → ⊥) → pick b n rest ≡ n → b ≡ true

@@ -1,0 +1,70 @@
+-- The roundings of a pay-off: neither makes less of a pension, and how large an increased pension and its cost can be.
+-- Assumes nothing.
+use mathlib.Core.Path.{_≡_, refl, ap, _∙_}
+use Prim.Native.Nat.{ℕ, zero, suc, _+_, _*_, _-_, _≤_, _<_, _^_}
+use native.Mathlib.Nat.{mul-le-mul, mul-le-mul-left}
+use native.Mathlib.Omega.{arith}
+use Rattle.rounding.specs.Nearest.{halfUp}
+use Rattle.rounding.proofs.HalfUp.{half-up-within-half}
+use Rattle.rounding.proofs.Laws.{weighted-most, weighted-least, round-most, round-least}
+use Rattle.money.specs.Limits.{unit, capPence}
+use Rattle.pay_off.specs.Price.{increasedBy, rateTwelfths, priceOf}
+
+-- the quotient's own bounds hold of what it rounds to
+at-most : (n d q : ℕ) → 0 < d → n ≤ q * d → halfUp n d ≤ q
+at-most = round-most halfUp half-up-within-half
+
+at-least : (n d q : ℕ) → 0 < d → q * d ≤ n → q ≤ halfUp n d
+at-least = round-least halfUp half-up-within-half
+
+-- an increase of 1,000 thousandths or more takes nothing away
+pub increased-least : (increase p : ℕ) → 1000 ≤ increase → p ≤ increasedBy increase p
+unfolding increasedBy
+increased-least increase p h = at-least (p * increase) 1000 p (omega arith) (mul-le-mul-left p h)
+
+-- the cap at the greatest increase
+pub increased-most : (increase p : ℕ) → increase ≤ 9999 → p ≤ capPence → increasedBy increase p ≤ 6499350
+unfolding increasedBy
+increased-most increase p h few =
+    at-most (p * increase) 1000 6499350 (omega arith) (omega (arith, mul-le-mul {n₁ = p} {m₁ = increase} {n₂ = 650000} {m₂ = 9999} few h))
+
+-- nothing stays nothing
+pub increased-none : (increase : ℕ) → increasedBy increase 0 ≡ 0
+unfolding increasedBy
+increased-none increase = omega (arith, at-most (0 * increase) 1000 0 (omega arith) (omega arith))
+
+-- the exact rate lies between bounds of both, where the upper one counts with odd months only
+pub twelfths-most : (m lower upper most : ℕ) → m ≤ 12 → lower ≤ most → upper ≤ most → rateTwelfths m lower upper ≤ most * 12
+unfolding rateTwelfths
+twelfths-most = weighted-most
+
+pub twelfths-least : (m lower upper least : ℕ) → m ≤ 12 → least ≤ lower → (0 < m → least ≤ upper) → least * 12 ≤ rateTwelfths m lower upper
+unfolding rateTwelfths
+twelfths-least zero lower upper least h p q = omega arith
+twelfths-least (suc m) lower upper least h p q = weighted-least (suc m) lower upper least h p (q (omega arith))
+
+module _ (increased lower upper m : ℕ) (months : m ≤ 12) where
+  -- at rates of £250 or more for £250 a year, a pension costs no less than itself
+  pub price-least : unit ≤ lower → (0 < m → unit ≤ upper) → increased ≤ priceOf increased lower upper m
+  unfolding priceOf
+  price-least p q =
+      at-least (increased * rateTwelfths m lower upper) (12 * unit) increased (omega arith)
+      (omega (arith, mul-le-mul-left increased (twelfths-least m lower upper unit months p q)))
+
+  -- what the greatest increased pension costs at the greatest lump sum
+  pub price-most : increased ≤ 6499350 → lower ≤ 456000 → upper ≤ 456000 → priceOf increased lower upper m ≤ 118548144
+  unfolding priceOf
+  price-most few p q =
+      at-most (increased * rateTwelfths m lower upper) (12 * unit) 118548144 (omega arith)
+      (omega (arith, mul-le-mul {n₁ = increased} {m₁ = rateTwelfths m lower upper} {n₂ = 6499350} {m₂ = 456000 * 12} few (twelfths-most m lower upper 456000 months p q)))
+
+  -- any two 32-bit rates leave room for the product
+  pub product-small : increased < 2 ^ 28 → lower < 2 ^ 32 → upper < 2 ^ 32 → increased * rateTwelfths m lower upper < 2 ^ 64
+  product-small few p q =
+      omega
+      (arith, mul-le-mul {n₁ = increased} {m₁ = rateTwelfths m lower upper} {n₂ = 2 ^ 28 - 1} {m₂ = (2 ^ 32 - 1) * 12} (omega arith) (twelfths-most m lower upper (2 ^ 32 - 1) months (omega arith) (omega arith)))
+
+-- nothing costs nothing
+pub price-none : (lower upper m : ℕ) → priceOf 0 lower upper m ≡ 0
+unfolding priceOf
+price-none lower upper m = omega (arith, at-most (0 * rateTwelfths m lower upper) (12 * unit) 0 (omega arith) (omega arith))

@@ -1,0 +1,6 @@
+pub mod Costs
+pub mod Contract
+pub mod Laws
+pub mod Complete
+pub mod Told
+pub mod Bounds

@@ -1,0 +1,138 @@
+-- What request 1 says of every pay-off: what is priced, and what is refused though Settle accepts it.
+-- Assumes nothing.
+use mathlib.Core.Bool.{true, false}
+use mathlib.Core.List.{List}
+use mathlib.Core.Logic.{inl, inr, ⊎-elim}
+use mathlib.Core.Path.{_≡_, refl, sym, ap, _∙_}
+use Prim.Native.Nat.{ℕ, _+_, _*_, _≤_, _<_}
+use native.Mathlib.Nat.{le-antisymm}
+use native.Mathlib.Omega.{arith}
+use lib.Dec.{eqb}
+use borrow.Author.Tests.{eq-eqb, eqb-true, eqb-false}
+use Rattle.common.specs.Choice.{pick}
+use Rattle.common.proofs.Choice.{either, not-first}
+use Rattle.common.proofs.Tests.{by-test, or-false, or-true}
+use Rattle.rates.proofs.Laws.{lump-printed, lump-shown, lump-none, lump-above}
+use Rattle.terms.specs.declared.Terms.{Terms}
+use Rattle.terms.specs.Rules.{missingUpper}
+use Rattle.terms.proofs.Laws.{upper-there}
+use Rattle.terms.proofs.Printed.{upper-missing, missing-upper}
+use Rattle.election.specs.Told.{Accepted}
+use Rattle.status.specs.Status.{statusOf}
+use Rattle.examination.proofs.Laws.{accepted}
+use Rattle.settlement.specs.Settle.{SettleNumbers, settleOf}
+use Rattle.settlement.proofs.Laws.{settle-settled, settle-refusal}
+use Rattle.settlement.proofs.Bounds.{settle-credit-most}
+use Rattle.pay_off.specs.Price.{increasedBy, priceOf}
+use Rattle.pay_off.specs.PayOff.{PayOffNumbers, nothingToPayOff, wrongIncrease, lumpSumNow, noLumpSumNow, contractRefusal, payOffOf}
+use Rattle.pay_off.specs.Told.{PricedTold, LacksLumpSum, RefusedTold}
+use Rattle.pay_off.proofs.Costs.{increased-least, increased-none, price-least, price-none}
+use Rattle.pay_off.proofs.Contract.{passes}
+use Rattle.pay_off.proofs.Complete.{complete-credit}
+use Rattle.pay_off.proofs.Laws.{decided-number, priced-is}
+
+-- terms that Settle accepts
+pub settled-terms : (t : Terms) (ms : List ℕ) → settleOf t ms .refusal ≡ 0 → Accepted t 0
+settled-terms t ms z = accepted t ms (sym (settle-refusal t ms) ∙ z)
+
+-- a needed lump sum that is not missing is above £250
+module _ (t : Terms) (ageNow : ℕ) (there : noLumpSumNow t ageNow ≡ false) where
+  above : (p : ℕ) → 0 < lumpSumNow t ageNow p → 25000 < lumpSumNow t ageNow p
+  above p some = lump-above (t .option) p ageNow (lump-printed (t .option) p ageNow some)
+
+  -- neither is missing
+  both : (eqb (lumpSumNow t ageNow (t .years)) 0 ≡ false) × (missingUpper t (lumpSumNow t ageNow (t .years + 1)) ≡ false)
+  unfolding noLumpSumNow
+  both = or-false (eqb (lumpSumNow t ageNow (t .years)) 0) (missingUpper t (lumpSumNow t ageNow (t .years + 1))) there
+
+  lower-above : 25000 < lumpSumNow t ageNow (t .years)
+  lower-above = above (t .years) (omega (arith, eqb-false (lumpSumNow t ageNow (t .years)) 0 (both .0)))
+
+  upper-above : 0 < t .months → 25000 < lumpSumNow t ageNow (t .years + 1)
+  upper-above odd = above (t .years + 1) (upper-there t _ (both .1) (λ z. omega arith))
+
+module _ (t : Terms) (ms : List ℕ) (ageNow increase : ℕ) where
+  abbrev settled : SettleNumbers
+  settled = settleOf t ms
+
+  abbrev answer : PayOffNumbers
+  answer = payOffOf t ms ageNow increase
+
+  whole : answer .refusal ≡ 0 → answer .remaining + settled .credit ≡ t .amount * 100
+  whole z = rw (priced-is t ms ageNow increase z .numbers) (omega (arith, settle-credit-most t ms))
+
+  -- where nothing remains, nothing is to be paid
+  none-left : answer .refusal ≡ 0 → answer .remaining ≡ 0 → (answer .increased ≡ 0) × (answer .cost ≡ 0)
+  none-left z left =
+      let is = priced-is t ms ageNow increase z .numbers in
+      let rest = sym (ap (λ (n : PayOffNumbers). n .remaining) is) ∙ left in
+      rw is (rw rest (rw (increased-none increase) (refl, price-none _ _ (t .months))))
+
+  rises : answer .refusal ≡ 0 → (answer .remaining ≤ answer .increased) × (answer .increased ≤ answer .cost)
+  rises z =
+      let is = priced-is t ms ageNow increase z in
+      let pass = passes t (settled .status) (settled .credit) ageNow increase (is .none) in
+      let age = settled-terms t ms (is .settled) .pension-age in
+      rw (is .numbers) (
+        increased-least increase _ (pass .increase-low),
+        price-least _ _ _ (t .months) (omega (arith, age .months-high))
+            (omega (arith, lower-above t ageNow (pass .printed)))
+            (λ odd. omega (arith, upper-above t ageNow (pass .printed) odd)),
+      )
+
+  pub priced-told : PricedTold t ms answer
+  priced-told =
+      record {
+        whole = whole;
+        complete = λ z complete.
+            let left : answer .remaining ≡ 0 =
+            omega (arith, whole z, complete-credit t ms (priced-is t ms ageNow increase z .settled) complete) in
+            (left, none-left z left);
+        rises = rises;
+        free = λ z free. omega (arith, rises z, free);
+        nothing-left = λ z left. none-left z left .1;
+      }
+
+  -- a lump sum has status 6
+  lump-sum : settled .refusal ≡ 0 → t .term ≡ 0 → answer .refusal ≡ 16
+  unfolding contractRefusal nothingToPayOff statusOf
+  lump-sum z lump =
+      let six : settled .status ≡ 6 =
+      ap (λ (n : SettleNumbers). n .status) (settle-settled t ms (sym (settle-refusal t ms) ∙ z)) ∙ rw lump in
+      decided-number t ms ageNow increase z ∙ rw six
+
+  -- a lump sum that is missing, in the words of the print rule
+  no-lump-says : noLumpSumNow t ageNow ≡ true → LacksLumpSum t ageNow
+  unfolding noLumpSumNow
+  no-lump-says e =
+      by-test (eqb (lumpSumNow t ageNow (t .years)) 0)
+      (λ lower. (t .years, (inl refl, λ there. omega (arith, eqb-true (lumpSumNow t ageNow (t .years)) 0 lower, lump-shown (t .option) (t .years) ageNow there))))
+      (λ lower.
+      let m = upper-missing t (lumpSumNow t ageNow (t .years + 1)) (rw lower at e) in
+      (t .years + 1, (inr (refl, m .0), λ there. omega (arith, m .1, lump-shown (t .option) (t .years + 1) ageNow there))))
+
+  says-no-lump : LacksLumpSum t ageNow → noLumpSumNow t ageNow ≡ true
+  unfolding noLumpSumNow
+  says-no-lump lacks =
+      let none = lump-none (t .option) (lacks .0) ageNow (lacks .1 .1) in
+      ⊎-elim
+      (λ e. rw (eq-eqb (lumpSumNow t ageNow (t .years)) 0 (rw e at none)))
+      (λ e. rw (missing-upper t _ (e .1) (rw (e .0) at none)) (or-true (eqb (lumpSumNow t ageNow (t .years)) 0)))
+      (lacks .1 .0)
+
+  five : settled .refusal ≡ 0 → answer .refusal ≡ 5 → LacksLumpSum t ageNow
+  unfolding contractRefusal
+  five z e =
+      let refused = sym (decided-number t ms ageNow increase z) ∙ e in
+      let status-fit = not-first (λ (n : ℕ). n ≡ 5) (nothingToPayOff (settled .status)) 16 _ (λ w. omega arith) refused in
+      let increase-fit = not-first (λ (n : ℕ). n ≡ 5) (wrongIncrease increase) 17 _ (λ w. omega arith) (status-fit .1) in
+      by-test (noLumpSumNow t ageNow) no-lump-says (λ there. absurd (omega (arith, rw there at (increase-fit .1))))
+
+  pub refused-told : RefusedTold t ms ageNow increase answer
+  unfolding contractRefusal
+  refused-told =
+      record {
+        lump-sum = lump-sum;
+        five = five;
+        just-five = λ z fit range lacks. decided-number t ms ageNow increase z ∙ rw (fit, range, says-no-lump lacks);
+      }

@@ -1,0 +1,131 @@
+// Paying off the rest: what a contract lacks of its amount, bought as a lump sum at the age that the member has now.
+ghost use mathlib.Core.Path.{_≡_};
+ghost use mathlib.Core.Bool.{_||_};
+ghost use Prim.Native.Nat.{_≤_, _<_, _^_};
+ghost use lib.Dec.{ltb, eqb};
+ghost use Rattle.common.specs.Choice.{pick};
+ghost use Rattle.money.specs.Money.{contribution};
+ghost use Rattle.terms.specs.Rules.{missingUpper};
+ghost use Rattle.election.specs.Told.{Accepted};
+ghost use Rattle.pay_off.specs.Price.{priceOf};
+ghost use Rattle.pay_off.specs.PayOff.{nothingToPayOff, wrongIncrease, contractRefusal, contractPayOff, payOffOf, numbersOf, isRefused};
+ghost use Rattle.pay_off.specs.Told.{PricedTold, RefusedTold};
+use money::ContributionPence;
+use money::PensionPence;
+use settlement::Settlement;
+use terms::Terms;
+
+// The answer: a refusal, or what remains and what it costs.
+pub enum PayOff {
+    // the refusal, and the index of a mark that Settle refuses
+    Refused {
+        refusal: u32,
+        place: usize,
+    },
+    Priced {
+        remaining: PensionPence,
+        increased: PensionPence,
+        cost: ContributionPence,
+    },
+}
+
+// The cost of an increased pension at the rate between those of two pension ages, which is not rounded.
+pub fn price(increased: PensionPence, lower: u32, upper: u32, months: u32) -> ContributionPence
+    requires { ⌜ (increased .0 < 2 ^ 28) × (months ≤ 11) ⌝ }
+    ensures { λ r. ⌜ r ≡ contribution (priceOf (increased .0) lower upper months) ⌝ }
+{
+    let rest = 12 - months;
+    increased.costs(rest as u64 * lower as u64 + months as u64 * upper as u64)
+}
+
+fn nothing_to_pay_off(status: u32) -> bool
+    ensures { λ r. ⌜ r ≡ nothingToPayOff status ⌝ }
+{
+    if status == 0 {
+        return true;
+    }
+    if status == 5 {
+        return true;
+    }
+    status == 6
+}
+
+fn wrong_increase(increase: u32) -> bool
+    ensures { λ r. ⌜ r ≡ wrongIncrease increase ⌝ }
+{
+    if increase < 1000 {
+        return true;
+    }
+    9999 < increase
+}
+
+// The upper lump sum is needed with odd months only.
+fn no_lump_sum(t: Terms, lower: u32, upper: u32) -> bool
+    ensures { λ r. ⌜ r ≡ eqb lower 0 || missingUpper t upper ⌝ }
+{
+    if lower == 0 {
+        return true;
+    }
+    if t.months == 0 {
+        return false;
+    }
+    upper == 0
+}
+
+// The first of 16, 17 and 5 that refuses a contract which Settle accepts, else 0.
+fn contract_refusal(t: Terms, status: u32, lower: u32, upper: u32, increase: u32) -> u32
+    ensures { λ r. ⌜ r ≡ pick (nothingToPayOff status) 16 (pick (wrongIncrease increase) 17 (pick (eqb lower 0 || missingUpper t upper) 5 0)) ⌝ }
+{
+    if nothing_to_pay_off(status) {
+        return 16;
+    }
+    if wrong_increase(increase) {
+        return 17;
+    }
+    if no_lump_sum(t, lower, upper) {
+        return 5;
+    }
+    0
+}
+
+// A contract that Settle accepts.
+fn pay_off_contract(t: Terms, status: u32, credit: PensionPence, age_now: u32, increase: u32) -> PayOff
+    requires { ⌜ Accepted t 0 ⌝ }
+    ensures is { λ r. ⌜ numbersOf r ≡ contractPayOff t status (credit .0) «age_now» increase ⌝ }
+    ensures refused { λ r. ⌜ isRefused r ≡ ltb 0 (contractRefusal t status «age_now» increase) ⌝ }
+{
+    let lower = rates::lump_sum_rate(t.option, t.years, age_now);
+    let upper = rates::lump_sum_rate(t.option, t.years + 1, age_now);
+    let refusal = contract_refusal(t, status, lower, upper, increase);
+    if refusal != 0 {
+        return PayOff::Refused { refusal, place: 0 };
+    }
+    let remaining = PensionPence::of_pounds(t.amount).less(credit);
+    let increased = remaining.increased(increase);
+    let cost = price(increased, lower, upper, t.months);
+    PayOff::Priced {
+        remaining,
+        increased,
+        cost,
+    }
+}
+
+// The remaining pension, the same increased by so many thousandths, and its cost; or the first refusal and its place. The age now is
+// not compared with the age at the election.
+pub fn pay_off(t: Terms, marks: &[u8], age_now: u32, increase: u32) -> PayOff
+    ensures is { λ r. ⌜ numbersOf r ≡ payOffOf t (now (marks .entry)) «age_now» increase ⌝ }
+    ensures priced { λ r. ⌜ PricedTold t (now (marks .entry)) (numbersOf r) ⌝ }
+    ensures refusals { λ r. ⌜ RefusedTold t (now (marks .entry)) «age_now» increase (numbersOf r) ⌝ }
+    ensures refused { λ r. ⌜ isRefused r ≡ ltb 0 (payOffOf t (now (marks .entry)) «age_now» increase .refusal) ⌝ }
+{
+    let answer = settlement::settle(t, marks);
+    match answer {
+        Settlement::Refused { refusal, place } => PayOff::Refused { refusal, place },
+        Settlement::Settled {
+            contribution,
+            status,
+            credit,
+            refund,
+        } => pay_off_contract(t, status, credit, age_now, increase),
+    }
+}
