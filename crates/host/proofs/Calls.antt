@@ -12,7 +12,9 @@ use Rattle.terms.specs.declared.Terms.{Terms}
 use Rattle.quotes.specs.Quote.{QuoteNumbers, quoteOf}
 use Rattle.settlement.specs.Settle.{SettleNumbers, settleOf}
 use Rattle.settlement.proofs.Bounds.{settle-bounds}
-use Rattle.host.specs.Calls.{answerIn, quoteBytes, settleBytes, hostQuoteOf, hostSettleOf}
+use Rattle.pay_off.specs.PayOff.{PayOffNumbers, payOffOf}
+use Rattle.pay_off.proofs.Bounds.{pay-off-bounds}
+use Rattle.host.specs.Calls.{answerIn, quoteBytes, settleBytes, payOffBytes, hostQuoteOf, hostSettleOf, hostPayOffOf}
 use Rattle.host.proofs.QuoteBounds.{quote-bounds}
 
 short : (size refusal : ℕ) (result buffer : List ℕ) → length buffer < size
@@ -38,6 +40,16 @@ quote-value-most t existing last is e =
 
 pub settle-value-most : (t : Terms) (marks : List ℕ) {n : SettleNumbers} → n ≡ settleOf t marks → n .refusal ≤ 12
 settle-value-most t marks is = omega (arith, ap (λ (n : SettleNumbers). n .refusal) is, settle-bounds t marks .refusal-most)
+
+pub pay-off-value-most : (t : Terms) (marks : List ℕ) (ageNow increase : ℕ) {n : PayOffNumbers} {told : List ℕ}
+    → n ≡ payOffOf t marks ageNow increase → told ≡ n .refusal ∷ n .place ∷ n .remaining ∷ n .increased ∷ n .cost ∷ [] → getD told 0 0 ≤ 17
+pay-off-value-most t marks ageNow increase is e =
+    omega (
+      arith,
+      ap (λ (l : List ℕ). getD l 0 0) e,
+      ap (λ (n : PayOffNumbers). n .refusal) is,
+      pay-off-bounds t marks ageNow increase .refusal-most,
+    )
 
 -- what is told
 
@@ -79,3 +91,24 @@ module _ (t : Terms) (marks buffer : List ℕ) where
       → (n .refusal ≡ hostSettleOf t marks buffer .value) × (after ≡ hostSettleOf t marks buffer .buffer)
   unfolding settleBytes
   settle-told h is stored = settle-enough h is (refl, stored ∙ stored-front _ buffer h)
+
+module _ (t : Terms) (marks : List ℕ) (ageNow increase : ℕ) (buffer : List ℕ) where
+  pub pay-off-short : length buffer < 40
+      → (14 ≡ hostPayOffOf t marks ageNow increase buffer .value) × (buffer ≡ hostPayOffOf t marks ageNow increase buffer .buffer)
+  unfolding hostPayOffOf
+  pay-off-short h =
+      short 40 (payOffOf t marks ageNow increase .refusal) (payOffBytes (payOffOf t marks ageNow increase)) buffer h
+
+  pub pay-off-enough : {n : PayOffNumbers} {value : ℕ} {after : List ℕ} → 40 ≤ length buffer → n ≡ payOffOf t marks ageNow increase
+      → (value ≡ n .refusal) × (after ≡ payOffBytes n ++ drop 40 buffer)
+      → (value ≡ hostPayOffOf t marks ageNow increase buffer .value) × (after ≡ hostPayOffOf t marks ageNow increase buffer .buffer)
+  unfolding hostPayOffOf
+  pay-off-enough h is told = enough (λ (n : PayOffNumbers). n .refusal) payOffBytes 40 buffer _ _ h is told
+
+  -- where the numbers of the pay-off are stored, in their order
+  pub pay-off-told : {n : PayOffNumbers} {told after : List ℕ} → 40 ≤ length buffer → n ≡ payOffOf t marks ageNow increase
+      → told ≡ n .refusal ∷ n .place ∷ n .remaining ∷ n .increased ∷ n .cost ∷ [] → after ≡ storedIn told buffer
+      → (getD told 0 0 ≡ hostPayOffOf t marks ageNow increase buffer .value) × (after ≡ hostPayOffOf t marks ageNow increase buffer .buffer)
+  unfolding payOffBytes
+  pay-off-told h is e stored =
+      pay-off-enough h is (ap (λ (l : List ℕ). getD l 0 0) e, stored ∙ ap (λ (l : List ℕ). storedIn l buffer) e ∙ stored-front _ buffer h)

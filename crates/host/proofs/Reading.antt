@@ -11,10 +11,13 @@ use Rattle.quotes.specs.Quote.{QuoteNumbers, quoteOf}
 use Rattle.settlement.specs.Settle.{SettleNumbers, settleOf}
 use Rattle.settlement.specs.Bounds.{SettleBounds}
 use Rattle.settlement.proofs.Bounds.{settle-bounds}
+use Rattle.pay_off.specs.PayOff.{PayOffNumbers, payOffOf}
+use Rattle.pay_off.specs.Bounds.{PayOffBounds}
+use Rattle.pay_off.proofs.Bounds.{pay-off-bounds}
 use Rattle.number_bytes.specs.Bytes.{lowBytes, eightBytes, inBytes}
-use Rattle.host.specs.Calls.{quoteBytes, settleBytes, hostQuoteOf, hostSettleOf}
-use Rattle.host.specs.Reading.{numberOf, numberAt, QuoteRead, SettleRead}
-use Rattle.host.proofs.Calls.{quote-enough, settle-enough}
+use Rattle.host.specs.Calls.{quoteBytes, settleBytes, payOffBytes, hostQuoteOf, hostSettleOf, hostPayOffOf}
+use Rattle.host.specs.Reading.{numberOf, numberAt, QuoteRead, SettleRead, PayOffRead}
+use Rattle.host.proofs.Calls.{quote-enough, settle-enough, pay-off-enough}
 use Rattle.host.proofs.QuoteBounds.{QuoteBounds, quote-bounds}
 
 low-back : (k n : ℕ) → n < 256 ^ k → numberOf (lowBytes k n) ≡ n
@@ -50,6 +53,17 @@ settle-back n rest most =
       refund = eight-back (n .refund) (omega arith);
     }
 
+pay-off-back : (n : PayOffNumbers) (rest : List ℕ) → PayOffBounds n → PayOffRead (payOffBytes n ++ rest) n
+unfolding payOffBytes inBytes eightBytes lowBytes numberAt
+pay-off-back n rest most =
+    record {
+      refusal = eight-back (n .refusal) (omega arith);
+      place = eight-back (n .place) (omega arith);
+      remaining = eight-back (n .remaining) (omega arith);
+      increased = eight-back (n .increased) (omega arith);
+      cost = eight-back (n .cost) (omega arith);
+    }
+
 -- after a call with room for the result, the buffer holds the numbers of Quote
 pub quote-reads : (t : Terms) (existing last : ℕ) (buffer : List ℕ) → 24 ≤ length buffer
     → QuoteRead (hostQuoteOf t existing last buffer .buffer) (quoteOf t existing last)
@@ -63,3 +77,10 @@ pub settle-reads : (t : Terms) (marks buffer : List ℕ) → 48 ≤ length buffe
 settle-reads t marks buffer h =
     subst (λ (l : List ℕ). SettleRead l (settleOf t marks)) (settle-enough t marks buffer h refl (refl, refl) .1)
     (settle-back (settleOf t marks) (drop 48 buffer) (settle-bounds t marks))
+
+-- and of the pay-off
+pub pay-off-reads : (t : Terms) (marks : List ℕ) (ageNow increase : ℕ) (buffer : List ℕ) → 40 ≤ length buffer
+    → PayOffRead (hostPayOffOf t marks ageNow increase buffer .buffer) (payOffOf t marks ageNow increase)
+pay-off-reads t marks ageNow increase buffer h =
+    subst (λ (l : List ℕ). PayOffRead l (payOffOf t marks ageNow increase)) (pay-off-enough t marks ageNow increase buffer h refl (refl, refl) .1)
+    (pay-off-back (payOffOf t marks ageNow increase) (drop 40 buffer) (pay-off-bounds t marks ageNow increase))

@@ -1,4 +1,4 @@
--- Document 01, "What each operation gives": Quote and Settle, called by a host.
+-- Document 01, "What each operation gives": Quote and Settle, called by a host; and the pay-off of request 1 of document 02.
 -- Assumes nothing.
 use mathlib.Core.List.{List, [], _∷_, _++_}
 use Prim.Native.Nat.{ℕ}
@@ -8,6 +8,7 @@ use Rattle.common.specs.Choice.{pick}
 use Rattle.terms.specs.declared.Terms.{Terms}
 use Rattle.quotes.specs.Quote.{QuoteNumbers, quoteOf}
 use Rattle.settlement.specs.Settle.{SettleNumbers, settleOf}
+use Rattle.pay_off.specs.PayOff.{PayOffNumbers, payOffOf}
 use Rattle.number_bytes.specs.Bytes.{inBytes}
 
 -- the terms that a call's numbers stand for
@@ -22,6 +23,10 @@ quoteBytes n = inBytes (n .refusal ∷ n .contribution ∷ n .next ∷ [])
 -- the result of Settle: refusal, place, contribution, status, credit, refund
 unfoldable pub settleBytes : SettleNumbers → List ℕ
 settleBytes n = inBytes (n .refusal ∷ n .place ∷ n .contribution ∷ n .status ∷ n .credit ∷ n .refund ∷ [])
+
+-- the result of the pay-off: refusal, place, remaining pension, increased pension, cost
+unfoldable pub payOffBytes : PayOffNumbers → List ℕ
+payOffBytes n = inBytes (n .refusal ∷ n .place ∷ n .remaining ∷ n .increased ∷ n .cost ∷ [])
 
 -- what a call gives: its value, and every byte of the lent buffer when it returns
 pub record HostAnswer : Type 0 where
@@ -42,3 +47,8 @@ hostQuoteOf t existing last buffer =
 -- Settle for a host: 48 bytes
 unfoldable pub hostSettleOf : Terms → (marks : List ℕ) → List ℕ → HostAnswer
 hostSettleOf t marks buffer = answerIn 48 (settleOf t marks .refusal) (settleBytes (settleOf t marks)) buffer
+
+-- the pay-off for a host: 40 bytes
+unfoldable pub hostPayOffOf : Terms → (marks : List ℕ) → (ageNow increase : ℕ) → List ℕ → HostAnswer
+hostPayOffOf t marks ageNow increase buffer =
+    answerIn 40 (payOffOf t marks ageNow increase .refusal) (payOffBytes (payOffOf t marks ageNow increase)) buffer

@@ -6,6 +6,7 @@ use Prim.Native.Nat.{ℕ, _+_, _*_}
 use lib.ListN.{take, drop}
 use Rattle.quotes.specs.Quote.{QuoteNumbers}
 use Rattle.settlement.specs.Settle.{SettleNumbers}
+use Rattle.pay_off.specs.PayOff.{PayOffNumbers}
 
 -- the number that bytes stand for, low byte first
 unfoldable pub numberOf : List ℕ → ℕ
@@ -30,3 +31,11 @@ pub record SettleRead (buffer : List ℕ) (n : SettleNumbers) : Type 0 where
   pub status : numberAt buffer 24 ≡ n .status
   pub credit : numberAt buffer 32 ≡ n .credit
   pub refund : numberAt buffer 40 ≡ n .refund
+
+-- a buffer that holds the numbers of a pay-off
+pub record PayOffRead (buffer : List ℕ) (n : PayOffNumbers) : Type 0 where
+  pub refusal : numberAt buffer 0 ≡ n .refusal
+  pub place : numberAt buffer 8 ≡ n .place
+  pub remaining : numberAt buffer 16 ≡ n .remaining
+  pub increased : numberAt buffer 24 ≡ n .increased
+  pub cost : numberAt buffer 32 ≡ n .cost

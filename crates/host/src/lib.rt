@@ -1,9 +1,11 @@
-// Quote and Settle for a host in C or Rust: plain numbers and a byte slice of marks in, the results as bytes in a lent buffer.
+// Quote, Settle and the pay-off for a host in C or Rust: plain numbers and a byte slice of marks in, the results as bytes in a lent buffer.
 ghost use mathlib.Core.Path.{_≡_};
 ghost use mathlib.Core.List.{[], _∷_};
 ghost use Rattle.quotes.specs.Quote.{numbersOf as quoteNumbers};
-ghost use Rattle.host.specs.Calls.{terms, hostQuoteOf, hostSettleOf};
+ghost use Rattle.pay_off.specs.PayOff.{numbersOf as payOffNumbers};
+ghost use Rattle.host.specs.Calls.{terms, hostQuoteOf, hostSettleOf, hostPayOffOf};
 use money::PensionPence;
+use pay_off::PayOff;
 use quotes::QuoteAnswer;
 use quotes::Quoted;
 use quotes::Register;
@@ -14,6 +16,9 @@ const QUOTE_BYTES: usize = 24;
 
 // How many those of Settle take.
 const SETTLE_BYTES: usize = 48;
+
+// How many those of the pay-off take.
+const PAY_OFF_BYTES: usize = 40;
 
 // The value of a call whose buffer has fewer bytes.
 const SHORT_BUFFER: u32 = 14;
@@ -29,6 +34,20 @@ fn quote_numbers(q: Quoted) -> [u64; 3]
             contribution,
             number,
         } => [0, contribution.0, number as u64],
+    }
+}
+
+// What a pay-off answers, in the order in which it is stored.
+fn pay_off_numbers(answer: PayOff) -> [u64; 5]
+    ensures { λ r. ⌜ r ≡ payOffNumbers answer .refusal ∷ payOffNumbers answer .place ∷ payOffNumbers answer .remaining ∷ payOffNumbers answer .increased ∷ payOffNumbers answer .cost ∷ [] ⌝ }
+{
+    match answer {
+        PayOff::Refused { refusal, place } => [refusal as u64, place as u64, 0, 0, 0],
+        PayOff::Priced {
+            remaining,
+            increased,
+            cost,
+        } => [0, 0, remaining.0, increased.0, cost.0],
     }
 }
 
@@ -109,4 +128,40 @@ pub extern "C" fn ap_settle(
     ];
     number_bytes::put_all(out, &told);
     n.refusal as u32
+}
+
+// The pay-off. A buffer of fewer than 40 bytes is left as it is and gives 14. Otherwise its first 40 bytes are refusal, place, remaining
+// pension, increased pension and cost, and the value is the refusal.
+#[no_mangle]
+pub extern "C" fn ap_pay_off(
+    age: u32,
+    pnpa_years: u32,
+    pnpa_months: u32,
+    option: u32,
+    payer: u32,
+    term: u32,
+    amount: u32,
+    marks: &[u8],
+    age_now: u32,
+    increase: u32,
+    out: &mut [u8],
+) -> u32
+    ensures value { λ r. ⌜ r ≡ hostPayOffOf (terms age «pnpa_years» «pnpa_months» option payer term amount) (now (marks .entry)) «age_now» increase (now (out .entry)) .value ⌝ }
+    ensures buffer { λ r. ⌜ now (out .exit) ≡ hostPayOffOf (terms age «pnpa_years» «pnpa_months» option payer term amount) (now (marks .entry)) «age_now» increase (now (out .entry)) .buffer ⌝ }
+{
+    if out.len() < PAY_OFF_BYTES {
+        return SHORT_BUFFER;
+    }
+    let t = Terms {
+        age,
+        years: pnpa_years,
+        months: pnpa_months,
+        option,
+        payer,
+        term,
+        amount,
+    };
+    let told = pay_off_numbers(pay_off::pay_off(t, marks, age_now, increase));
+    number_bytes::put_all(out, &told);
+    told[0] as u32
 }
