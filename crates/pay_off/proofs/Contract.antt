@@ -5,10 +5,10 @@ use mathlib.Core.Path.{_≡_, refl, sym, ap, _∙_}
 use Prim.Native.Nat.{ℕ, _+_, _*_, _-_, _≤_, _<_, _^_}
 use native.Mathlib.Omega.{arith}
 use lib.Dec.{ltb, eqb}
-use borrow.Author.Tests.{lt-ltb, ltb-false, eq-eqb, ne-eqb}
+use borrow.Author.Tests.{lt-ltb, ltb-false, eq-eqb, ne-eqb, eqb-false}
 use Rattle.common.specs.Choice.{pick}
 use Rattle.common.proofs.Choice.{not-first, chosen-number}
-use Rattle.common.proofs.Tests.{or-false}
+use Rattle.common.proofs.Tests.{by-test, or-false}
 use Rattle.rounding.specs.Nearest.{halfUp}
 use Rattle.money.specs.Money.{pension, contribution}
 use Rattle.money.specs.declared.ContributionPence.{ContributionPence}
@@ -18,7 +18,7 @@ use Rattle.terms.specs.Rules.{missingUpper}
 use Rattle.election.specs.Told.{Accepted}
 use Rattle.pay_off.specs.Price.{increasedBy, priceOf}
 use Rattle.pay_off.specs.PayOff.{PayOffNumbers, nothingToPayOff, wrongIncrease, lumpSumNow, noLumpSumNow, contractRefusal, refusedPayOff, remainingOf, pricedPayOff, contractPayOff}
-use Rattle.pay_off.proofs.Costs.{increased-most}
+use Rattle.pay_off.proofs.Costs.{price-upper}
 
 -- what nothing refuses
 pub record Passes (t : Terms) (status ageNow increase : ℕ) : Type 0 where
@@ -26,6 +26,10 @@ pub record Passes (t : Terms) (status ageNow increase : ℕ) : Type 0 where
   pub increase-low : 1000 ≤ increase
   pub increase-high : increase ≤ 9999
   pub printed : noLumpSumNow t ageNow ≡ false
+
+-- at a whole pension age the upper lump sum is not missed
+missing-same : (t : Terms) (a b : ℕ) → ((t .months ≡ 0 → ⊥) → a ≡ b) → missingUpper t a ≡ missingUpper t b
+missing-same t a b h = by-test (eqb (t .months) 0) (λ e. rw e) (λ e. ap (missingUpper t) (h (eqb-false (t .months) 0 e)))
 
 module _ (t : Terms) (status credit ageNow increase : ℕ) where
   -- the two outcomes
@@ -59,11 +63,12 @@ module _ (t : Terms) (status credit ageNow increase : ℕ) where
       }
 
   -- the refusal as the code works it out, from two lump sums that it looked up
-  pub refusal-is : {refusal lower upper : ℕ} → lower ≡ lumpSumNow t ageNow (t .years) → upper ≡ lumpSumNow t ageNow (t .years + 1)
+  pub refusal-is : {refusal lower upper : ℕ} → lower ≡ lumpSumNow t ageNow (t .years)
+      → ((t .months ≡ 0 → ⊥) → upper ≡ lumpSumNow t ageNow (t .years + 1))
       → refusal ≡ pick (nothingToPayOff status) 16 (pick (wrongIncrease increase) 17 (pick (eqb lower 0 || missingUpper t upper) 5 0))
       → refusal ≡ contractRefusal t status ageNow increase
   unfolding contractRefusal noLumpSumNow
-  refusal-is l u e = e ∙ rw (l, u)
+  refusal-is {refusal} {lower} {upper} l u e = e ∙ rw (l, missing-same t upper (lumpSumNow t ageNow (t .years + 1)) u)
 
   -- the answer as the code puts it together
   pub refuses : {refusal : ℕ} → refusal ≡ contractRefusal t status ageNow increase → (refusal ≡ 0 → ⊥)
@@ -74,7 +79,7 @@ module _ (t : Terms) (status credit ageNow increase : ℕ) where
       (ap (λ (n : ℕ). refusedPayOff n 0) e ∙ sym (contract-refused other), sym (lt-ltb 0 (contractRefusal t status ageNow increase) (omega (arith, other))))
 
   pub prices : {refusal lower upper : ℕ} {rest more : PensionPence} {own : ContributionPence}
-      → lower ≡ lumpSumNow t ageNow (t .years) → upper ≡ lumpSumNow t ageNow (t .years + 1)
+      → lower ≡ lumpSumNow t ageNow (t .years) → ((t .months ≡ 0 → ⊥) → upper ≡ lumpSumNow t ageNow (t .years + 1))
       → refusal ≡ contractRefusal t status ageNow increase → refusal ≡ 0
       → rest ≡ pension (remainingOf t credit) → more ≡ pension (increasedBy increase (rest .0))
       → own ≡ contribution (priceOf (more .0) lower upper (t .months))
@@ -82,9 +87,10 @@ module _ (t : Terms) (status credit ageNow increase : ℕ) where
       (record { refusal = 0; place = 0; remaining = rest .0; increased = more .0; cost = own .0 })
       (contractPayOff t status credit ageNow increase))
       × (false ≡ ltb 0 (contractRefusal t status ageNow increase))
-  prices l u e z r m c =
+  prices {refusal} {lower} {upper} {rest} {more} l u e z r m c =
       let none = sym e ∙ z in
-      (rw (contract-priced none, c, m, r, l, u), rw none)
+      let cost = c ∙ ap contribution (price-upper (more .0) lower upper (lumpSumNow t ageNow (t .years + 1)) (t .months) u) in
+      (rw (contract-priced none, cost, m, r, l), rw none)
 
 -- what the code leaves of an amount, and how little that is under the cap
 pub left : {whole rest : PensionPence} (t : Terms) (credit : ℕ) → whole ≡ pension (t .amount * 100) → rest ≡ pension (whole .0 - credit)

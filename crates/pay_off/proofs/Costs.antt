@@ -68,3 +68,11 @@ module _ (increased lower upper m : ℕ) (months : m ≤ 12) where
 pub price-none : (lower upper m : ℕ) → priceOf 0 lower upper m ≡ 0
 unfolding priceOf
 price-none lower upper m = omega (arith, at-most (0 * rateTwelfths m lower upper) (12 * unit) 0 (omega arith) (omega arith))
+
+-- at a whole pension age the upper rate does not matter
+pub price-upper : (increased lower a b m : ℕ) → ((m ≡ 0 → ⊥) → a ≡ b) → priceOf increased lower a m ≡ priceOf increased lower b m
+unfolding priceOf rateTwelfths
+price-upper increased lower a b zero h =
+    let same : (12 - 0) * lower + 0 * a ≡ (12 - 0) * lower + 0 * b = omega arith in
+    ap (λ (n : ℕ). halfUp (increased * n) (12 * unit)) same
+price-upper increased lower a b (suc m) h = ap (λ (u : ℕ). priceOf increased lower u (suc m)) (h (λ z. omega arith))

@@ -1,15 +1,16 @@
 // Paying off the rest: what a contract lacks of its amount, bought as a lump sum at the age that the member has now.
 ghost use mathlib.Core.Path.{_≡_};
 ghost use mathlib.Core.Bool.{_||_};
-ghost use Prim.Native.Nat.{_≤_, _<_, _^_};
+ghost use Prim.Native.Nat.{_+_, _≤_, _<_, _^_};
 ghost use lib.Dec.{ltb, eqb};
 ghost use Rattle.common.specs.Choice.{pick};
 ghost use Rattle.money.specs.Money.{contribution};
 ghost use Rattle.terms.specs.Rules.{missingUpper};
 ghost use Rattle.election.specs.Told.{Accepted};
 ghost use Rattle.pay_off.specs.Price.{priceOf};
-ghost use Rattle.pay_off.specs.PayOff.{nothingToPayOff, wrongIncrease, contractRefusal, contractPayOff, payOffOf, numbersOf, isRefused};
+ghost use Rattle.pay_off.specs.PayOff.{nothingToPayOff, wrongIncrease, lumpSumNow, contractRefusal, contractPayOff, payOffOf, numbersOf, isRefused};
 ghost use Rattle.pay_off.specs.Told.{PricedTold, RefusedTold};
+use election::TableRates;
 use money::ContributionPence;
 use money::PensionPence;
 use settlement::Settlement;
@@ -59,7 +60,23 @@ fn wrong_increase(increase: u32) -> bool
     9999 < increase
 }
 
-// The upper lump sum is needed with odd months only.
+// The lump sums at the age now, as an election by lump sum looks them up; the upper one is needed with odd months only. They are not
+// asked of `rates` here: with a second caller its lookup would no longer be inlined into the first (docs/SPEED.md).
+fn lump_sums_now(t: Terms, age_now: u32) -> TableRates
+    ensures lower { λ r. ⌜ r .lower ≡ lumpSumNow t «age_now» (t .years) ⌝ }
+    ensures upper { λ r. ⌜ ((t .months ≡ 0 → ⊥) → r .upper ≡ lumpSumNow t «age_now» (t .years + 1)) ⌝ }
+{
+    election::rates_of(Terms {
+        age: age_now,
+        years: t.years,
+        months: t.months,
+        option: t.option,
+        payer: t.payer,
+        term: 0,
+        amount: t.amount,
+    })
+}
+
 fn no_lump_sum(t: Terms, lower: u32, upper: u32) -> bool
     ensures { λ r. ⌜ r ≡ eqb lower 0 || missingUpper t upper ⌝ }
 {
@@ -94,15 +111,14 @@ fn pay_off_contract(t: Terms, status: u32, credit: PensionPence, age_now: u32, i
     ensures is { λ r. ⌜ numbersOf r ≡ contractPayOff t status (credit .0) «age_now» increase ⌝ }
     ensures refused { λ r. ⌜ isRefused r ≡ ltb 0 (contractRefusal t status «age_now» increase) ⌝ }
 {
-    let lower = rates::lump_sum_rate(t.option, t.years, age_now);
-    let upper = rates::lump_sum_rate(t.option, t.years + 1, age_now);
-    let refusal = contract_refusal(t, status, lower, upper, increase);
+    let sums = lump_sums_now(t, age_now);
+    let refusal = contract_refusal(t, status, sums.lower, sums.upper, increase);
     if refusal != 0 {
         return PayOff::Refused { refusal, place: 0 };
     }
     let remaining = PensionPence::of_pounds(t.amount).less(credit);
     let increased = remaining.increased(increase);
-    let cost = price(increased, lower, upper, t.months);
+    let cost = price(increased, sums.lower, sums.upper, t.months);
     PayOff::Priced {
         remaining,
         increased,

@@ -10,25 +10,19 @@ use Rattle.pay_off.proofs.Contract.{passes, refusal-is, refuses, prices
 use Rattle.pay_off.proofs.pay_off_contract.Statement.{statement}
 use Rattle.pay_off.proofs.pay_off_contract.Tie as tie
 
-lump-sum-rate-requires : tie.Need-lump-sum-rate-requires
-lump-sum-rate-requires c κs = search needs
-
-add-lump-sum-rate : tie.Need-add-lump-sum-rate
-add-lump-sum-rate c = search needs
-
-lump-sum-rate-requires-2 : tie.Need-lump-sum-rate-requires-2
-lump-sum-rate-requires-2 c κs = search needs
+lump-sums-now-requires : tie.Need-lump-sums-now-requires
+lump-sums-now-requires c κs = search needs
 
 contract-refusal-requires : tie.Need-contract-refusal-requires
 contract-refusal-requires c κs = search needs
 
 returns : tie.Need-returns
 returns c =
-    let b = c .before in
-    let a = b .before .before .before .before .args in
-    let lower = b .before .before .before .lump-sum-rate .ensures in
-    let told = refusal-is (a .t) (a .status) (a .credit .0) (a .age-now) (a .increase) lower (b .before .lump-sum-rate2 .ensures) (b .contract-refusal .ensures) in
-    refuses (a .t) (a .status) (a .credit .0) (a .age-now) (a .increase) told (c .if1 .taken)
+    let a = c .before .before .before .args in
+    let sums = c .before .before .lump-sums-now .ensures in
+    refuses (a .t) (a .status) (a .credit .0) (a .age-now) (a .increase)
+    (refusal-is (a .t) (a .status) (a .credit .0) (a .age-now) (a .increase) (sums .0) (sums .1) (c .before .contract-refusal .ensures))
+    (c .if1 .taken)
 
 of-pounds-requires : tie.Need-of-pounds-requires
 of-pounds-requires c κs = search needs
@@ -38,18 +32,18 @@ less-requires c κs = search needs
 
 increased-requires : tie.Need-increased-requires
 increased-requires c κs =
-    let start = c .before .before .before .before .before .before .before in
+    let start = c .before .before .before .before .before in
     let rest = left (start .args .t) (start .args .credit .0) (c .before .of-pounds .ensures) (c .less .ensures) in
     omega (arith, left-most (start .args .t) (start .args .credit .0) (start .pre) rest)
 
 price-requires : tie.Need-price-requires
 unfolding increasedBy
 price-requires c κs =
-    let b = c .before .before .before .before in
-    let start = b .before .before .before .before in
+    let decided = c .before .before .before .before in
+    let start = decided .before .before in
     let a = start .args in
-    let lower = b .before .before .before .lump-sum-rate .ensures in
-    let told = refusal-is (a .t) (a .status) (a .credit .0) (a .age-now) (a .increase) lower (b .before .lump-sum-rate2 .ensures) (b .contract-refusal .ensures) in
+    let sums = decided .before .lump-sums-now .ensures in
+    let told = refusal-is (a .t) (a .status) (a .credit .0) (a .age-now) (a .increase) (sums .0) (sums .1) (decided .contract-refusal .ensures) in
     let pass = passes (a .t) (a .status) (a .credit .0) (a .age-now) (a .increase) (sym told ∙ c .before .before .before .if1 .left) in
     let rest = left (a .t) (a .credit .0) (c .before .before .of-pounds .ensures) (c .before .less .ensures) in
     let most = increased-most _ _ (pass .increase-high) (left-most (a .t) (a .credit .0) (start .pre) rest) in
@@ -58,22 +52,19 @@ price-requires c κs =
 returns-2 : tie.Need-returns-2
 unfolding increasedBy
 returns-2 c =
-    let b = c .before .before .before .before .before in
-    let a = b .before .before .before .before .args in
-    let lower = b .before .before .before .lump-sum-rate .ensures in
-    let upper = b .before .lump-sum-rate2 .ensures in
-    let told = refusal-is (a .t) (a .status) (a .credit .0) (a .age-now) (a .increase) lower upper (b .contract-refusal .ensures) in
+    let decided = c .before .before .before .before .before in
+    let a = decided .before .before .args in
+    let sums = decided .before .lump-sums-now .ensures in
+    let told = refusal-is (a .t) (a .status) (a .credit .0) (a .age-now) (a .increase) (sums .0) (sums .1) (decided .contract-refusal .ensures) in
     let rest = left (a .t) (a .credit .0) (c .before .before .before .of-pounds .ensures) (c .before .before .less .ensures) in
-    prices (a .t) (a .status) (a .credit .0) (a .age-now) (a .increase) lower upper told (c .before .before .before .before .if1 .left) rest
-    (c .before .increased .ensures) (c .price .ensures)
+    prices (a .t) (a .status) (a .credit .0) (a .age-now) (a .increase) (sums .0) (sums .1) told (c .before .before .before .before .if1 .left)
+    rest (c .before .increased .ensures) (c .price .ensures)
 
 pub pay-off-contract-spec : {M : Type 1} → statement M
 pay-off-contract-spec =
     tie.close
     (tie.spec
-    lump-sum-rate-requires
-    add-lump-sum-rate
-    lump-sum-rate-requires-2
+    lump-sums-now-requires
     contract-refusal-requires
     returns
     of-pounds-requires
