@@ -1,12 +1,12 @@
 /*
- * Additional Pension of the HSC Pension Scheme 2015: quoting an election and settling a contract.
+ * Additional Pension of the HSC Pension Scheme 2015: quoting an election, settling a contract and paying off its rest.
  *
- * Link with libhost.a (x86-64). Both functions are proved to keep the scheme's rules for every number they are given. They
+ * Link with libhost.a (x86-64). The three functions are proved to keep the scheme's rules for every number they are given. They
  * allocate nothing, keep nothing between calls and end for every input; calls from several threads do not disturb each other.
  *
  * What a caller owes. Of the numbers, nothing: every number has an answer, and what the scheme does not allow is refused. Of
  * the memory, what every C function is owed: a pointer stands for as many bytes as the length beside it says, nothing else
- * writes them during the call, and the two pieces lent to ap_settle do not overlap. A piece needs no alignment. A pointer is not
+ * writes them during the call, and the pieces lent to one call do not overlap. A piece needs no alignment. A pointer is not
  * null, also where its length is 0.
  */
 #ifndef ADDITIONAL_PENSION_H
@@ -35,22 +35,24 @@ extern "C" {
 #define AP_MARK_PAID 1u
 #define AP_MARK_ENDED 2u
 
-/* Refusals. A short buffer comes before all others; then the first that applies is given, in the order of the numbers, and of
- * two bad marks the one further left. */
+/* Refusals. A call gives the first that applies, in the order that stands with its function; not all go by the numbers. */
 #define AP_REFUSED_NOTHING 0u
 #define AP_REFUSED_OPTION 1u         /* the option is not 1 or 2 */
 #define AP_REFUSED_PENSION_AGE 2u    /* the pension age is not from 65 years 0 months to 68 years 0 months, or months exceed 11 */
 #define AP_REFUSED_TERM 3u           /* the term is above 20 */
 #define AP_REFUSED_PAYER 4u          /* the payer is not 1 or 2, or an employer has a term above 0 */
-#define AP_REFUSED_NO_RATE 5u        /* no printed lump sum at a needed pension age, or no rate in the only or lower monthly table */
+#define AP_REFUSED_NO_RATE 5u        /* no printed lump sum at a needed pension age, or no rate in the only or lower monthly table;
+                                      * ap_pay_off: or no printed lump sum for the age now at a needed pension age */
 #define AP_REFUSED_NO_UPPER_RATE 6u  /* no printed rate for this age and term in the upper monthly table */
 #define AP_REFUSED_AMOUNT 7u         /* the amount is 0 or not a multiple of 250 pounds */
 #define AP_REFUSED_CAP 8u            /* existing pension and the new amount exceed 6,500 pounds a year */
 #define AP_REFUSED_LAST_NUMBER 9u    /* ap_quote: the last number is 999,999 or more */
-#define AP_REFUSED_MARK_COUNT 10u    /* ap_settle: more marks than the term has months, or any for a lump sum */
-#define AP_REFUSED_MARK_VALUE 11u    /* ap_settle: the mark at the place is above 2 */
-#define AP_REFUSED_MARK_ORDER 12u    /* ap_settle: the mark at the place is not lawful after those before it */
+#define AP_REFUSED_MARK_COUNT 10u    /* more marks than the term has months, or any for a lump sum */
+#define AP_REFUSED_MARK_VALUE 11u    /* the mark at the place is above 2 */
+#define AP_REFUSED_MARK_ORDER 12u    /* the mark at the place is not lawful after those before it */
 #define AP_REFUSED_SHORT_BUFFER 14u  /* the buffer is too short; it keeps its bytes */
+#define AP_REFUSED_NOTHING_TO_PAY_OFF 16u  /* ap_pay_off: the status is 0, 5 or 6 */
+#define AP_REFUSED_INCREASE 17u      /* ap_pay_off: the increase is not from 1,000 to 9,999 */
 
 /* Statuses of a settled contract. */
 #define AP_STATUS_NOT_STARTED 0u  /* monthly, no marks */
@@ -76,6 +78,14 @@ extern "C" {
 #define AP_SETTLE_REFUND 40u        /* pence */
 #define AP_SETTLE_BYTES 48u
 
+/* A pay-off's result: five numbers of 8 bytes, low byte first, at these offsets. */
+#define AP_PAY_OFF_REFUSAL 0u
+#define AP_PAY_OFF_PLACE 8u       /* index from 0 of the mark refused with 11 or 12, else 0 */
+#define AP_PAY_OFF_REMAINING 16u  /* pence of pension a year: the amount less the credit */
+#define AP_PAY_OFF_INCREASED 24u  /* pence of pension a year: the same after the increase */
+#define AP_PAY_OFF_COST 32u       /* pence, as a lump sum */
+#define AP_PAY_OFF_BYTES 40u
+
 /*
  * Quotes an election.
  *
@@ -93,6 +103,8 @@ extern "C" {
  * first 24 bytes of out are written: the refusal, the contribution and the next number, which is last_number + 1. A refusal
  * gives 0 for both of them. The caller keeps the register: it stores the next number after a success and nothing after a
  * refusal.
+ *
+ * Order of refusals: 14, then 1 to 9 as they are numbered.
  */
 uint32_t ap_quote(uint32_t age, uint32_t pnpa_years, uint32_t pnpa_months, uint32_t option, uint32_t payer,
                   uint32_t term, uint32_t amount, uint64_t existing_pence, uint32_t last_number,
@@ -108,10 +120,32 @@ uint32_t ap_quote(uint32_t age, uint32_t pnpa_years, uint32_t pnpa_months, uint3
  * If out_len is below 48, the value is 14 and nothing is written. Otherwise the value is the refusal (0 to 8, 10 to 12), and
  * exactly the first 48 bytes of out are written: the refusal, its place, the contribution, the status, the credit and the
  * refund. A refusal gives 0 for all after the place. The cap is looked at as if nothing else were held.
+ *
+ * Order of refusals: 14, then 1 to 8 and 10 as they are numbered, then 11 or else 12 for the bad mark furthest left.
  */
 uint32_t ap_settle(uint32_t age, uint32_t pnpa_years, uint32_t pnpa_months, uint32_t option, uint32_t payer,
                    uint32_t term, uint32_t amount, const uint8_t *marks, size_t marks_len,
                    uint8_t *out, size_t out_len);
+
+/*
+ * Prices the rest of a contract as its marks stand: the lump sum that buys what is missing of its amount.
+ *
+ *   age to marks_len  as for ap_settle
+ *   age_now           last birthday on the day of paying off, whole years; the cost goes by its printed lump sum
+ *   increase          of pension since the election, in thousandths: 1,000 for none, 1,011 for 1.1 per cent
+ *   out, out_len      where the result goes
+ *
+ * If out_len is below 40, the value is 14 and nothing is written. Otherwise the value is the refusal (0 to 8, 10 to 12, 16 or
+ * 17), and exactly the first 40 bytes of out are written: the refusal, its place, the remaining pension, the increased pension
+ * and the cost. A refusal gives 0 for all after the place. A complete contract costs 0. The age now is not compared with the
+ * age at election.
+ *
+ * Order of refusals: 14, then those of ap_settle in its order and with its place, then 16, 17, 5. So 5 comes twice: among those
+ * of ap_settle for the election, and last for the age now, of a complete contract too.
+ */
+uint32_t ap_pay_off(uint32_t age, uint32_t pnpa_years, uint32_t pnpa_months, uint32_t option, uint32_t payer,
+                    uint32_t term, uint32_t amount, const uint8_t *marks, size_t marks_len,
+                    uint32_t age_now, uint32_t increase, uint8_t *out, size_t out_len);
 
 #ifdef __cplusplus
 }

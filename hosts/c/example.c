@@ -1,6 +1,7 @@
 /*
- * Quotes and settles a few contracts and prints how each stands. Every buffer and every list of marks is a piece of memory of
- * just the length that is passed (of one byte where that is 0), so that a memory checker sees a byte read or written beyond it.
+ * Quotes, settles and pays off a few contracts and prints how each stands. Every buffer and every list of marks is a piece of
+ * memory of just the length that is passed (of one byte where that is 0), so that a memory checker sees a byte read or written
+ * beyond it.
  */
 #include "additional_pension.h"
 
@@ -18,11 +19,18 @@ static const char *const REFUSALS[] = {
     "not refused",      "option",           "pension age",   "term",        "payer",
     "no rate",          "no upper rate",    "amount",        "cap",         "last number",
     "number of marks",  "value of a mark",  "order of marks", "",           "short buffer",
+    "",                 "nothing to pay off", "increase",
 };
 
 static const char *const STATUSES[] = {
     "not started", "paying", "in a gap", "complete", "ceased", "refunded", "lump sum",
 };
+
+/* The marks of a year that is paid. */
+#define YEAR "111111111111"
+
+/* What fills a buffer before a call. */
+#define UNTOUCHED 0xa5
 
 /* A piece of memory. It is never null, also where the length is 0: no null pointer may be lent. */
 static void *memory(size_t length)
@@ -76,17 +84,33 @@ static void quote(const struct terms *terms, uint64_t existing_pence, uint32_t *
     free(result);
 }
 
-/* Settles a contract whose marks are given as digits. The value is the refusal. */
-static uint32_t settle_into(const struct terms *terms, const char *digits, uint8_t *result, size_t length)
+/* Marks that are given as digits. */
+static uint8_t *marks_of(const char *digits)
 {
     size_t count = strlen(digits);
     uint8_t *marks = memory(count);
-    uint32_t refusal;
 
     for (size_t month = 0; month < count; month++)
         marks[month] = (uint8_t)(digits[month] - '0');
-    refusal = ap_settle(terms->age, terms->pnpa_years, terms->pnpa_months, terms->option, terms->payer, terms->term,
-                        terms->amount, marks, count, result, length);
+    return marks;
+}
+
+static void print_marks(const char *digits)
+{
+    printf("  marks %s\n", digits[0] != '\0' ? digits : "none");
+}
+
+static void print_refusal(uint32_t refusal, uint64_t place)
+{
+    printf("  refused %" PRIu32 " at %" PRIu64 ": %s\n\n", refusal, place, REFUSALS[refusal]);
+}
+
+/* Settles a contract. The value is the refusal. */
+static uint32_t settle_into(const struct terms *terms, const char *digits, uint8_t *result, size_t length)
+{
+    uint8_t *marks = marks_of(digits);
+    uint32_t refusal = ap_settle(terms->age, terms->pnpa_years, terms->pnpa_months, terms->option, terms->payer, terms->term,
+                                 terms->amount, marks, strlen(digits), result, length);
     free(marks);
     return refusal;
 }
@@ -98,9 +122,9 @@ static void settle(const struct terms *terms, const char *digits)
     uint32_t refusal = settle_into(terms, digits, result, AP_SETTLE_BYTES);
     printf("Settle: ");
     print_terms(terms);
-    printf("  marks %s\n", digits[0] != '\0' ? digits : "none");
+    print_marks(digits);
     if (refusal != AP_REFUSED_NOTHING) {
-        printf("  refused %" PRIu32 " at %" PRIu64 ": %s\n\n", refusal, number(result, AP_SETTLE_PLACE), REFUSALS[refusal]);
+        print_refusal(refusal, number(result, AP_SETTLE_PLACE));
     } else {
         printf("  status        %s\n", STATUSES[number(result, AP_SETTLE_STATUS)]);
         print_money("contribution", number(result, AP_SETTLE_CONTRIBUTION));
@@ -111,19 +135,65 @@ static void settle(const struct terms *terms, const char *digits)
     free(result);
 }
 
-/* A buffer that is a byte too short keeps what it holds. */
-static void short_buffer(const struct terms *terms)
+/* Pays off a contract. The value is the refusal. */
+static uint32_t pay_off_into(const struct terms *terms, const char *digits, uint32_t age_now, uint32_t increase,
+                             uint8_t *result, size_t length)
 {
-    size_t length = AP_SETTLE_BYTES - 1;
-    uint8_t *result = memory(length);
-    uint32_t refusal;
-    size_t kept = 0;
+    uint8_t *marks = marks_of(digits);
+    uint32_t refusal = ap_pay_off(terms->age, terms->pnpa_years, terms->pnpa_months, terms->option, terms->payer, terms->term,
+                                  terms->amount, marks, strlen(digits), age_now, increase, result, length);
+    free(marks);
+    return refusal;
+}
 
-    memset(result, 0xa5, length);
-    refusal = settle_into(terms, "", result, length);
-    while (kept < length && result[kept] == 0xa5)
+/* Pays off and prints what that costs. */
+static void pay_off(const struct terms *terms, const char *digits, uint32_t age_now, uint32_t increase)
+{
+    uint8_t *result = memory(AP_PAY_OFF_BYTES);
+    uint32_t refusal = pay_off_into(terms, digits, age_now, increase, result, AP_PAY_OFF_BYTES);
+    printf("Pay off: ");
+    print_terms(terms);
+    print_marks(digits);
+    printf("  age now %" PRIu32 ", increase %" PRIu32 ".%03" PRIu32 "\n", age_now, increase / 1000, increase % 1000);
+    if (refusal != AP_REFUSED_NOTHING) {
+        print_refusal(refusal, number(result, AP_PAY_OFF_PLACE));
+    } else {
+        print_money("remaining", number(result, AP_PAY_OFF_REMAINING));
+        print_money("increased", number(result, AP_PAY_OFF_INCREASED));
+        print_money("cost", number(result, AP_PAY_OFF_COST));
+        printf("\n");
+    }
+    free(result);
+}
+
+/* A buffer as it is before a call. */
+static uint8_t *untouched(size_t length)
+{
+    uint8_t *result = memory(length);
+    memset(result, UNTOUCHED, length);
+    return result;
+}
+
+/* Prints how much of what the buffer held is still there. */
+static void print_kept(const char *call, uint32_t refusal, const uint8_t *result, size_t length)
+{
+    size_t kept = 0;
+    while (kept < length && result[kept] == UNTOUCHED)
         kept++;
-    printf("Settle into %zu bytes\n  refused %" PRIu32 ": %s, %zu bytes kept\n", length, refusal, REFUSALS[refusal], kept);
+    printf("%s into %zu bytes\n  refused %" PRIu32 ": %s, %zu bytes kept\n", call, length, refusal, REFUSALS[refusal], kept);
+}
+
+/* Buffers that are a byte too short keep what they hold. */
+static void short_buffers(const struct terms *terms)
+{
+    size_t settled = AP_SETTLE_BYTES - 1, paid_off = AP_PAY_OFF_BYTES - 1;
+    uint8_t *result = untouched(settled);
+    print_kept("Settle", settle_into(terms, "", result, settled), result, settled);
+    free(result);
+
+    printf("\n");
+    result = untouched(paid_off);
+    print_kept("Pay off", pay_off_into(terms, "", 65, 999, result, paid_off), result, paid_off);
     free(result);
 }
 
@@ -157,6 +227,19 @@ int main(void)
     settle(&odd_months, "111111111111111");
     settle(&lump_sum, "");
 
-    short_buffer(&five_years);
+    pay_off(&five_years, "111111111111111111", 51, 1011);
+    pay_off(&five_years, "1111111111111111110000111111", 52, 1011);
+    pay_off(&five_years, "1111111111112", 51, 1000);
+    pay_off(&odd_months, "111111111111111", 55, 1250);
+    pay_off(&five_years, YEAR YEAR YEAR YEAR YEAR, 55, 1011);
+    pay_off(&five_years, "10000000000001", 51, 1011);
+    pay_off(&five_years, "", 50, 1000);
+    pay_off(&five_years, "111112", 50, 1000);
+    pay_off(&lump_sum, "", 41, 1011);
+    pay_off(&five_years, "111111111111111111", 51, 999);
+    pay_off(&five_years, "111111111111111111", 51, 10000);
+    pay_off(&five_years, "111111111111111111", 65, 1011);
+
+    short_buffers(&five_years);
     return EXIT_SUCCESS;
 }

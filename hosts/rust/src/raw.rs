@@ -1,4 +1,4 @@
-//! The library's two calls as they are: numbers and bytes.
+//! The library's three calls as they are: numbers and bytes.
 
 /// The bytes of a quote's result: numbers of 8 bytes, low byte first.
 pub const QUOTE_BYTES: usize = 24;
@@ -14,6 +14,14 @@ pub const SETTLE_CONTRIBUTION: usize = 16;
 pub const SETTLE_STATUS: usize = 24;
 pub const SETTLE_CREDIT: usize = 32;
 pub const SETTLE_REFUND: usize = 40;
+
+/// The bytes of a pay-off: numbers of 8 bytes, low byte first.
+pub const PAY_OFF_BYTES: usize = 40;
+pub const PAY_OFF_REFUSAL: usize = 0;
+pub const PAY_OFF_PLACE: usize = 8;
+pub const PAY_OFF_REMAINING: usize = 16;
+pub const PAY_OFF_INCREASED: usize = 24;
+pub const PAY_OFF_COST: usize = 32;
 
 /// The value of a call whose buffer is too short.
 pub const SHORT_BUFFER: u32 = 14;
@@ -70,6 +78,22 @@ mod linked {
             out: *mut u8,
             out_len: usize,
         ) -> u32;
+
+        pub fn ap_pay_off(
+            age: u32,
+            pnpa_years: u32,
+            pnpa_months: u32,
+            option: u32,
+            payer: u32,
+            term: u32,
+            amount: u32,
+            marks: *const u8,
+            marks_len: usize,
+            age_now: u32,
+            increase: u32,
+            out: *mut u8,
+            out_len: usize,
+        ) -> u32;
     }
 }
 
@@ -110,6 +134,29 @@ pub fn settle(terms: &Numbers, marks: &[u8], out: &mut [u8]) -> u32 {
             terms.amount,
             marks.as_ptr(),
             marks.len(),
+            out.as_mut_ptr(),
+            out.len(),
+        )
+    }
+}
+
+/// Pays off into the first [`PAY_OFF_BYTES`] of `out`; the rest stays. The value is the refusal, 0 for none. A shorter `out`
+/// keeps its bytes, and the value is [`SHORT_BUFFER`].
+pub fn pay_off(terms: &Numbers, marks: &[u8], age_now: u32, increase: u32, out: &mut [u8]) -> u32 {
+    // SAFETY: as for `settle`.
+    unsafe {
+        linked::ap_pay_off(
+            terms.age,
+            terms.pension_age_years,
+            terms.pension_age_months,
+            terms.option,
+            terms.payer,
+            terms.term,
+            terms.amount,
+            marks.as_ptr(),
+            marks.len(),
+            age_now,
+            increase,
             out.as_mut_ptr(),
             out.len(),
         )

@@ -13,7 +13,8 @@ pub enum Refusal {
     Term,
     /// 4: the payer is neither of the two, or an employer pays by the month.
     Payer,
-    /// 5: no lump sum is printed for this age at a needed pension age, or no rate for this age and term in the only or lower monthly table.
+    /// 5: no lump sum is printed for this age at a needed pension age, or no rate for this age and term in the only or lower
+    /// monthly table; or, for a pay-off, no lump sum for the age now at a needed pension age.
     NoRate,
     /// 6: nothing is printed for this age and term in the upper monthly table.
     NoUpperRate,
@@ -31,6 +32,10 @@ pub enum Refusal {
     UnlawfulMark { place: u64 },
     /// 14: the result's buffer is too short. This crate's own buffers are not.
     ShortBuffer,
+    /// 16: no month has elapsed, the contract was refunded, or it is a lump sum. A complete contract is paid off for nothing.
+    NothingToPayOff,
+    /// 17: the increase is not from 1,000 to 9,999 thousandths.
+    Increase,
 }
 
 impl Refusal {
@@ -51,6 +56,8 @@ impl Refusal {
             11 => Refusal::UnknownMark { place },
             12 => Refusal::UnlawfulMark { place },
             14 => Refusal::ShortBuffer,
+            16 => Refusal::NothingToPayOff,
+            17 => Refusal::Increase,
             _ => unreachable!("the library has no refusal {number}"),
         })
     }
@@ -71,6 +78,8 @@ impl Refusal {
             Refusal::UnknownMark { .. } => 11,
             Refusal::UnlawfulMark { .. } => 12,
             Refusal::ShortBuffer => 14,
+            Refusal::NothingToPayOff => 16,
+            Refusal::Increase => 17,
         }
     }
 }
@@ -82,7 +91,7 @@ impl fmt::Display for Refusal {
             Refusal::PensionAge => write!(formatter, "the pension age is outside its range"),
             Refusal::Term => write!(formatter, "the term is above 20 years"),
             Refusal::Payer => write!(formatter, "the payer is unknown, or an employer pays by the month"),
-            Refusal::NoRate => write!(formatter, "there is no rate for this age and term"),
+            Refusal::NoRate => write!(formatter, "there is no rate for this age and term, or no lump sum for the age now"),
             Refusal::NoUpperRate => write!(formatter, "there is no rate for this age and term at the upper pension age"),
             Refusal::Amount => write!(formatter, "the amount is not a multiple of £250"),
             Refusal::AboveCap => write!(formatter, "the pension would be above the cap"),
@@ -91,6 +100,8 @@ impl fmt::Display for Refusal {
             Refusal::UnknownMark { place } => write!(formatter, "the mark at {place} is unknown"),
             Refusal::UnlawfulMark { place } => write!(formatter, "the mark at {place} is not lawful there"),
             Refusal::ShortBuffer => write!(formatter, "the buffer is too short"),
+            Refusal::NothingToPayOff => write!(formatter, "the contract has nothing to pay off"),
+            Refusal::Increase => write!(formatter, "the increase is outside its range"),
         }
     }
 }

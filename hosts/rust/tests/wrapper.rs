@@ -30,6 +30,15 @@ fn a_settlement() {
 }
 
 #[test]
+fn a_pay_off() {
+    let paid_off = pay_off(&TERMS, &[PAID; 18], 51, 1_011).unwrap();
+    let expected = PayOff { remaining: Pension(672_01), increased: Pension(679_40), cost: Contribution(8_125_62) };
+    assert_eq!(paid_off, expected);
+    let nothing = PayOff { remaining: Pension(0), increased: Pension(0), cost: Contribution(0) };
+    assert_eq!(pay_off(&TERMS, &[PAID; 60], 55, 1_011).unwrap(), nothing);
+}
+
+#[test]
 fn every_status() {
     let lump_sum = Terms { term: 0, payer: Payer::Employer, ..TERMS };
     let statuses = [
@@ -68,6 +77,27 @@ fn refusals() {
     assert_eq!(refused[9], Refusal::UnlawfulMark { place: 0 });
     let error: Box<dyn std::error::Error> = Box::new(refused[8]);
     assert_eq!(error.to_string(), "the mark at 1 is unknown");
+}
+
+/// Each of them is wrong in everything that comes after its refusal too.
+#[test]
+fn refused_pay_offs() {
+    let lump_sum = Terms { term: 0, ..TERMS };
+    let refused = [
+        pay_off(&Terms { age: 60, ..TERMS }, &[], 65, 999).unwrap_err(),
+        pay_off(&TERMS, &[PAID, 3], 65, 999).unwrap_err(),
+        pay_off(&TERMS, &[], 65, 999).unwrap_err(),
+        pay_off(&TERMS, &[PAID, ENDED], 65, 10_000).unwrap_err(),
+        pay_off(&lump_sum, &[], u32::MAX, u32::MAX).unwrap_err(),
+        pay_off(&TERMS, &[PAID; 18], 65, 999).unwrap_err(),
+        pay_off(&TERMS, &[PAID; 60], 15, 10_000).unwrap_err(),
+        pay_off(&TERMS, &[PAID; 18], 15, 1_000).unwrap_err(),
+        pay_off(&TERMS, &[PAID; 60], 65, 9_999).unwrap_err(),
+    ];
+    assert_eq!(refused.map(|refusal| refusal.number()), [5, 11, 16, 16, 16, 17, 17, 5, 5]);
+    assert_eq!(refused[1], Refusal::UnknownMark { place: 1 });
+    assert_eq!(refused[2].to_string(), "the contract has nothing to pay off");
+    assert_eq!(refused[5].to_string(), "the increase is outside its range");
 }
 
 #[test]

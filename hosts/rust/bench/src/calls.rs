@@ -1,4 +1,4 @@
-//! Time per call of Settle and Quote.
+//! Time per call of Settle, Quote and the pay-off.
 
 use additional_pension::raw::{self, Numbers};
 use reference::samples::Random;
@@ -16,12 +16,17 @@ struct Contract {
     marks: Vec<u8>,
     existing: u64,
     last_number: u32,
+    age_now: u32,
 }
+
+/// The increase of every pay-off, in thousandths.
+const INCREASE: u32 = 1_011;
 
 #[derive(Clone, Copy)]
 enum Call {
     Quote,
     Settle,
+    PayOff,
 }
 
 /// What a kind of contract has: its marks, whether the pension age has odd months, its refusal, and what is changed for it.
@@ -40,11 +45,16 @@ fn lump_sum(contract: &mut Contract) {
     contract.terms.term = 0;
 }
 
+fn five_years(contract: &mut Contract) {
+    contract.terms.term = 5;
+    contract.terms.age = contract.terms.age.min(59);
+}
+
 const fn kind(name: &'static str, call: Call, marks: usize, odd: bool, refusal: u64, change: fn(&mut Contract)) -> Kind {
     Kind { name, call, marks, odd, refusal, change }
 }
 
-const KINDS: [Kind; 21] = [
+const KINDS: [Kind; 24] = [
     kind("settle, 5 marks, whole", Call::Settle, 5, false, 0, as_it_is),
     kind("settle, 5 marks, odd", Call::Settle, 5, true, 0, as_it_is),
     kind("settle, 28 marks, whole", Call::Settle, 28, false, 0, as_it_is),
@@ -68,6 +78,9 @@ const KINDS: [Kind; 21] = [
     kind("quote, refused 5", Call::Quote, 0, false, 5, |contract| contract.terms.age = 67),
     kind("quote, refused 8", Call::Quote, 0, true, 8, |contract| contract.existing = 6_400_01),
     kind("quote, refused 9", Call::Quote, 0, true, 9, |contract| contract.last_number = 999_999),
+    kind("pay-off, 18 of 60 marks, whole", Call::PayOff, 18, false, 0, five_years),
+    kind("pay-off, 18 of 60 marks, odd", Call::PayOff, 18, true, 0, five_years),
+    kind("pay-off, 240 marks, odd", Call::PayOff, 240, true, 0, as_it_is),
 ];
 
 /// Contracts that run on after their marks, where a term can: 240 marks are a whole one of 20 years.
@@ -90,7 +103,8 @@ fn contracts(kind: &Kind) -> Vec<Contract> {
         if kind.marks >= 28 {
             marks[18..22].fill(0);
         }
-        let mut contract = Contract { terms, marks, existing: 0, last_number: random.from_to(0, 999_998) };
+        let age_now = terms.age + kind.marks as u32 / 12;
+        let mut contract = Contract { terms, marks, existing: 0, last_number: random.from_to(0, 999_998), age_now };
         (kind.change)(&mut contract);
         contract
     };
@@ -102,6 +116,7 @@ fn part_call(call: Call, contract: &Contract, out: &mut [u8; raw::SETTLE_BYTES])
     match call {
         Call::Quote => raw::quote(&terms, contract.existing, contract.last_number, &mut out[..raw::QUOTE_BYTES]),
         Call::Settle => raw::settle(&terms, &contract.marks, out),
+        Call::PayOff => raw::pay_off(&terms, &contract.marks, contract.age_now, INCREASE, &mut out[..raw::PAY_OFF_BYTES]),
     };
 }
 
@@ -113,6 +128,10 @@ fn reference_call(call: Call, contract: &Contract, out: &mut [u8; raw::SETTLE_BY
             out[..raw::QUOTE_BYTES].copy_from_slice(&answer.bytes());
         }
         Call::Settle => *out = reference::settle(&contract.terms, &contract.marks).bytes(),
+        Call::PayOff => {
+            let answer = reference::pay_off(&contract.terms, &contract.marks, contract.age_now, INCREASE);
+            out[..raw::PAY_OFF_BYTES].copy_from_slice(&answer.bytes());
+        }
     }
 }
 

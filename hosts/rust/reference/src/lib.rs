@@ -6,6 +6,7 @@
 pub mod case_file;
 pub mod credit;
 pub mod marks;
+pub mod pay_off;
 pub mod quote;
 pub mod rates;
 pub mod records;
@@ -16,6 +17,7 @@ pub mod settle;
 pub mod terms;
 
 pub use case_file::{list_line, listing};
+pub use pay_off::{pay_off, PayOff};
 pub use quote::{cap_decision, quote, Quote};
 pub use records::{member_total, post, MemberTotal, Record};
 pub use schedule::schedule;

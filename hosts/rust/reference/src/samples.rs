@@ -132,6 +132,37 @@ pub fn last_number(random: &mut Random) -> u32 {
     }
 }
 
+/// Another number that has the low bits of this one.
+fn with_high_bits(random: &mut Random, number: u32) -> u32 {
+    number.wrapping_add(random.pick(&[1 << 8, 1 << 16, 3 << 16, 1 << 24, 1 << 31]))
+}
+
+/// An age at which the rest of a contract might be paid off: mostly one with a printed lump sum, about the first and last of
+/// them, or anything.
+pub fn age_now(random: &mut Random) -> u32 {
+    let usual = random.from_to(16, 64);
+    match random.from_to(0, 15) {
+        0 => wild(random),
+        1 => with_high_bits(random, usual),
+        2 => random.pick(&[0, 14, 15, 65, 66, 67]),
+        3 | 4 => random.pick(&[16, 17, 63, 64]),
+        _ => usual,
+    }
+}
+
+/// An increase in thousandths: mostly one that is taken, small or large, about the ends of what is taken, or anything.
+pub fn increase(random: &mut Random) -> u32 {
+    let usual = random.from_to(1_000, 9_999);
+    match random.from_to(0, 15) {
+        0 => wild(random),
+        1 => with_high_bits(random, usual),
+        2 => random.pick(&[0, 1, 100, 998, 999, 10_000, 10_001, 99_999]),
+        3 | 4 => random.pick(&[1_000, 1_001, 9_998, 9_999]),
+        5..=9 => random.from_to(1_000, 1_300),
+        _ => usual,
+    }
+}
+
 /// Marks from runs: `runs(&[(18, 1), (4, 0)])` is 18 paid and 4 missed.
 pub fn runs(runs: &[(usize, u8)]) -> Vec<u8> {
     runs.iter().flat_map(|&(count, mark)| std::iter::repeat_n(mark, count)).collect()
@@ -203,6 +234,13 @@ pub fn marks(random: &mut Random, term: u32) -> Vec<u8> {
         }
     }
     marks
+}
+
+/// The terms and marks of a monthly contract that Settle takes.
+pub fn monthly_contract(random: &mut Random) -> (Terms, Vec<u8>) {
+    let terms = monthly_terms(random);
+    let count = count(random, terms.term).min(12 * terms.term as usize);
+    (terms, lawful_marks(random, count))
 }
 
 /// Puts a line of the case file, without its end, in the place of what `line` held. Numbers keep the digits that fit.

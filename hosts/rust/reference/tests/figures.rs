@@ -1,8 +1,9 @@
 //! The figures that the rules name, at their edges.
 
 use reference::credit::{month_value, row};
+use reference::pay_off::{cost, increased};
 use reference::rates::{monthly_rate, D65};
-use reference::rounding::{blend, nearest};
+use reference::rounding::{blend, half_up, nearest};
 use reference::samples::runs;
 use reference::*;
 
@@ -84,6 +85,51 @@ fn the_first_mark() {
     assert_eq!(five_years(&[(1, 0)]), refused(12, 0));
     let ended = five_years(&[(1, 2)]);
     assert_eq!(ended, Settlement { contribution: 242_00, status: 5, ..Settlement::default() });
+}
+
+#[test]
+fn the_rest_of_a_pension_and_its_cost() {
+    assert_eq!(increased(1_196_40, 1_011), 1_209_56);
+    assert_eq!(cost(1_209_56, 3_852_50, 3_852_50, 0), 18_639_32);
+    assert_eq!(cost(1_209_56, 3_940_00, 3_730_00, 5), 18_639_32);
+    // Rounding the cost alone, and not the increased pension before it, would give 18,639.33.
+    assert_eq!(half_up(1_196_40 * 1_011 * 3_852_50, 1_000 * 250_00), 18_639_33);
+}
+
+/// The rest of the five years' contract, with an increase of 1.1 per cent.
+fn rest_of_five_years(marks: &[(usize, u8)], age_now: u32) -> PayOff {
+    pay_off(&FIVE_YEARS, &runs(marks), age_now, 1_011)
+}
+
+fn not_paid_off(refusal: u32) -> PayOff {
+    PayOff { refusal, ..PayOff::default() }
+}
+
+#[test]
+fn five_years_paid_off() {
+    let given = |remaining, increased, cost| PayOff { remaining, increased, cost, ..PayOff::default() };
+    assert_eq!(rest_of_five_years(&[(18, 1)], 51), given(672_01, 679_40, 8_125_62));
+    assert_eq!(rest_of_five_years(&[(18, 1), (4, 0), (6, 1)], 52), given(570_39, 576_66, 7_058_32));
+    assert_eq!(rest_of_five_years(&[(12, 1), (1, 2)], 51), given(777_41, 785_96, 9_400_08));
+    assert_eq!(rest_of_five_years(&[(60, 1)], 55), given(0, 0, 0));
+    let at = |increase| pay_off(&FIVE_YEARS, &[1; 18], 51, increase);
+    assert_eq!(at(1_000), given(672_01, 672_01, 8_037_24));
+    assert_eq!(at(9_999), given(672_01, 6_719_43, 80_364_38));
+}
+
+#[test]
+fn five_years_not_paid_off() {
+    assert_eq!(rest_of_five_years(&[], 51), not_paid_off(16));
+    assert_eq!(rest_of_five_years(&[(11, 1), (1, 2)], 51), not_paid_off(16));
+    assert_eq!(pay_off(&Terms { term: 0, ..FIVE_YEARS }, &[], 51, 1_011), not_paid_off(16));
+    for increase in [0, 999, 10_000, u32::MAX] {
+        assert_eq!(pay_off(&FIVE_YEARS, &[1; 18], 51, increase), not_paid_off(17));
+    }
+    for age_now in [0, 15, 65, u32::MAX] {
+        assert_eq!(rest_of_five_years(&[(18, 1)], age_now), not_paid_off(5));
+        assert_eq!(rest_of_five_years(&[(60, 1)], age_now), not_paid_off(5));
+    }
+    assert_eq!(rest_of_five_years(&[(1, 1), (12, 0), (1, 1)], 52), PayOff { refusal: 12, place: 13, ..PayOff::default() });
 }
 
 #[test]

@@ -2,6 +2,7 @@
 
 use reference::credit::{month_value, row};
 use reference::marks::{first_bad, status};
+use reference::pay_off::{cost, increased};
 use reference::rates::{lump_sum_rate, monthly_rate, table, S};
 use reference::samples::{self, Random};
 use reference::*;
@@ -222,6 +223,128 @@ fn the_credit_stays_near_the_exact_credit() {
     }
     println!("{held} contracts, the furthest {furthest:.3} pence from exact");
     assert!(held > 50_000);
+}
+
+#[test]
+fn pay_off_refusals_come_in_their_order() {
+    // Everything is wrong at first; each step mends what the refusal before it named. Refusal 5 comes at two places.
+    struct Asked {
+        terms: Terms,
+        marks: Vec<u8>,
+        age_now: u32,
+        increase: u32,
+    }
+    let mut asked = Asked {
+        terms: Terms { age: 90, pension_age_years: 64, pension_age_months: 12, option: 3, payer: 3, term: 21, amount: 1 },
+        marks: samples::runs(&[(5, 1), (1, 3), (1, 0), (1, 2), (1, 1), (10, 2)]),
+        age_now: 65,
+        increase: 999,
+    };
+    let steps: [(u32, u32, fn(&mut Asked)); 16] = [
+        (1, 0, |asked| asked.terms.option = 1),
+        (2, 0, |asked| asked.terms.pension_age_years = 66),
+        (2, 0, |asked| asked.terms.pension_age_months = 11),
+        (3, 0, |asked| asked.terms.term = 1),
+        (4, 0, |asked| asked.terms.payer = 2),
+        (4, 0, |asked| asked.terms.payer = 1),
+        (5, 0, |asked| asked.terms.age = 45),
+        (7, 0, |asked| asked.terms.amount = 6_750),
+        (8, 0, |asked| asked.terms.amount = 6_500),
+        (10, 0, |asked| asked.marks.truncate(12)),
+        (11, 5, |asked| asked.marks[5] = 1),
+        (12, 8, |asked| asked.marks[8] = 2),
+        (16, 0, |asked| asked.marks = vec![1; 12]),
+        (17, 0, |asked| asked.increase = 10_000),
+        (17, 0, |asked| asked.increase = 1_000),
+        (5, 0, |asked| asked.age_now = 64),
+    ];
+    for (refusal, place, mend) in steps {
+        let refused = pay_off(&asked.terms, &asked.marks, asked.age_now, asked.increase);
+        assert_eq!(refused, PayOff { refusal, place, ..PayOff::default() });
+        mend(&mut asked);
+    }
+    assert_eq!(pay_off(&asked.terms, &asked.marks, asked.age_now, asked.increase), PayOff::default());
+}
+
+#[test]
+fn the_age_now_may_be_any_with_a_printed_lump_sum() {
+    let at = |age_now| pay_off(&TERMS, &[1; 18], age_now, 1_000);
+    for age_now in 0..=80 {
+        let refusal = if (16..=64).contains(&age_now) { 0 } else { 5 };
+        assert_eq!(at(age_now).refusal, refusal, "{age_now}");
+    }
+    // Below the age at election too: the cost goes by the age now alone.
+    assert_eq!([16, 64].map(|age_now| at(age_now).cost), [3_145_01, 12_257_46]);
+    assert_eq!(pay_off(&Terms { age: 16, ..TERMS }, &[1; 60], 16, 1_000), PayOff::default());
+}
+
+#[test]
+fn halves_go_up_in_both_roundings() {
+    // 500.5, 4.5 and 1.5, then just under a half.
+    assert_eq!([increased(5_00, 1_001), increased(3, 1_500), increased(1, 1_500), increased(1, 1_499)], [5_01, 5, 2, 1]);
+    // At half a penny for a penny: 0.5, 1.5 and 2.5.
+    assert_eq!([1, 3, 5].map(|pence| cost(pence, 125_00, 125_00, 0)), [1, 2, 3]);
+    assert_eq!([1, 3, 5].map(|pence| cost(pence, 120_00, 130_00, 6)), [1, 2, 3]);
+    assert_eq!([1, 3, 5].map(|pence| cost(pence, 124_99, 124_99, 0)), [0, 1, 2]);
+}
+
+#[test]
+fn the_rate_between_two_rates_is_not_rounded() {
+    // A rate of 10,000 and 5 twelfths.
+    assert_eq!(cost(600_00, 100_00, 100_01, 5), 240_01);
+    assert_eq!(cost(600_00, 100_01, 100_00, 7), 240_01);
+    assert_eq!(
+        [0, 3, 6, 9].map(|months| cost(1_000_00, 3_940_00, 3_730_00, months)),
+        [15_760_00, 15_550_00, 15_340_00, 15_130_00]
+    );
+}
+
+/// Whether `rounded` is within half of `numerator ÷ denominator`, and not half below it.
+fn is_half_up(rounded: u64, numerator: u64, denominator: u64) -> bool {
+    2 * rounded * denominator <= 2 * numerator + denominator && 2 * numerator < (2 * rounded + 1) * denominator
+}
+
+#[test]
+fn pay_offs_round_twice_at_any_rates() {
+    let mut random = Random::new(SEED);
+    for _ in 0..100_000 {
+        let remaining = u64::from(random.from_to(0, 650_000));
+        let increase = random.from_to(1_000, 9_999);
+        let (lower, upper) = (random.from_to(1, 1_000_000), random.from_to(1, 1_000_000));
+        let months = random.from_to(0, 11);
+        let increased = increased(remaining, increase);
+        assert!(is_half_up(increased, remaining * u64::from(increase), 1_000));
+        let rate = u64::from((12 - months) * lower + months * upper);
+        assert!(is_half_up(cost(increased, lower, upper, months), increased * rate, 12 * 250_00));
+    }
+}
+
+#[test]
+fn what_remains_and_what_it_costs() {
+    let mut random = Random::new(SEED);
+    let mut statuses = [0; 7];
+    for _ in 0..100_000 {
+        let terms = samples::lawful_terms(&mut random);
+        let elapsed = random.from_to(0, 12 * terms.term);
+        let count = random.pick(&[elapsed, 12 * terms.term]) as usize;
+        let marks = samples::lawful_marks(&mut random, count);
+        let settled = settle(&terms, &marks);
+        let paid_off = pay_off(&terms, &marks, random.from_to(16, 64), random.from_to(1_000, 9_999));
+        assert_eq!(settled.refusal, 0);
+        statuses[settled.status as usize] += 1;
+        if matches!(settled.status, 0 | 5 | 6) {
+            assert_eq!(paid_off, PayOff { refusal: 16, ..PayOff::default() });
+            continue;
+        }
+        assert_eq!((paid_off.refusal, paid_off.place), (0, 0));
+        assert_eq!(paid_off.remaining + settled.credit, terms.amount_pence());
+        assert!(paid_off.increased >= paid_off.remaining);
+        assert_eq!(paid_off.cost == 0, paid_off.remaining == 0);
+        if settled.status == 3 {
+            assert_eq!(paid_off, PayOff::default());
+        }
+    }
+    assert!(statuses.iter().all(|count| *count > 0), "{statuses:?}");
 }
 
 #[test]

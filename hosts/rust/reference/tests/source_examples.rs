@@ -1,6 +1,8 @@
-//! The worked examples of document 000.
+//! The worked examples of document 000, and those of paying off in document 001.
 
 use reference::credit::{month_value, row};
+use reference::pay_off::{cost, increased};
+use reference::rounding::blend;
 use reference::*;
 
 const MEMBER: Terms =
@@ -84,4 +86,40 @@ fn example_a4_gap() {
     assert_eq!(settle(&terms, &marks[..28]).credit, 442_40);
     let settled = settle(&terms, &marks);
     assert_eq!((settled.status, settled.credit), (4, 832_34));
+}
+
+/// The rest of a pension at a whole pension age: what it is after the increase, and its cost at document 001's own rate.
+fn rest(remaining: u64, increase: u32, rate: u32) -> (u64, u64) {
+    let increased = increased(remaining, increase);
+    (increased, cost(increased, rate, rate, 0))
+}
+
+/// Example 4 prints its cost in whole pounds.
+#[test]
+fn document_001_examples_2_to_4_paid_off() {
+    assert_eq!(rest(1_750_00 - 562_16, 1_040, 4_810_00), (1_235_35, 23_768_13));
+    assert_eq!(rest(1_000_00 - 846_15, 1_208, 3_290_00), (185_85, 2_445_79));
+    assert_eq!(rest(2_250_00 - 487_96, 1_061, 2_190_00), (1_869_52, 16_377_00));
+}
+
+/// Document 001 increases the rest by 1.1 per cent to £1,209.56, but then prices £1,208.36, which is the rest increased by 1.0
+/// per cent, and prints £18,620.83.
+#[test]
+fn document_001_example_5_paid_off_at_odd_months() {
+    let remaining = 1_500_00 - blend(5, 303_62, 303_58);
+    assert_eq!(remaining, 1_196_40);
+    let priced = |increase| {
+        let increased = increased(remaining, increase);
+        (increased, cost(increased, 3_940_00, 3_730_00, 5))
+    };
+    assert_eq!(priced(1_011), (1_209_56, 18_639_32));
+    assert_eq!(priced(1_010), (1_208_36, 18_620_83));
+}
+
+/// The same contract at document 000's rates, where a lump sum costs as much at either pension age.
+#[test]
+fn document_001_example_5_at_the_rates_of_document_000() {
+    let terms = Terms { age: 60, pension_age_years: 66, pension_age_months: 5, option: 1, term: 4, amount: 1_500, ..MEMBER };
+    let paid_off = pay_off(&terms, &[1; 9], 61, 1_011);
+    assert_eq!(paid_off, PayOff { remaining: 1_190_82, increased: 1_203_92, cost: 18_299_58, ..PayOff::default() });
 }

@@ -224,6 +224,15 @@ fn stored_settlements() {
 }
 
 #[test]
+fn stored_pay_offs() {
+    compare("pay-off", 0, |asked: [u64; 17]| {
+        let [age_now, increase] = [asked[15], asked[16]].map(narrow);
+        let PayOff { refusal, place, remaining, increased, cost } = pay_off(&terms(&asked), &marks(&asked), age_now, increase);
+        format!("refusal {refusal} place {place} remaining {remaining} increased {increased} cost {cost}")
+    });
+}
+
+#[test]
 fn stored_quotes() {
     compare("quote", 43, |asked: [u64; 9]| {
         let Quote { refusal, contribution, next_number, register } = quote(&terms(&asked), asked[7], narrow(asked[8]));
@@ -244,7 +253,7 @@ fn stored_rates_and_roundings() {
 /// No stored figure is left out above.
 #[test]
 fn every_stored_figure_is_of_a_kind() {
-    let kinds = ["schedule", "cap", "settle", "quote", "rate", "nearest", "blend"];
+    let kinds = ["schedule", "cap", "settle", "pay-off", "quote", "rate", "nearest", "blend"];
     for line in stored("figures").lines() {
         let (label, _) = read_figure(line);
         assert!(kinds.contains(&kind_of(&label)), "{line:?}");
