@@ -3,21 +3,21 @@
 use mathlib.Core.Bool.{Bool, true, false}
 use mathlib.Core.List.{List}
 use mathlib.Core.Path.{_≡_, refl, sym, ap, _∙_}
-use Prim.Native.Nat.{ℕ, _<_}
+use Prim.Native.Nat.{ℕ, _+_, _<_}
 use native.Mathlib.Decide.{ℕ-discrete}
 use native.Mathlib.Omega.{arith}
 use lib.Dec.{ltb}
 use borrow.Author.Tests.{ltb-true, eq-eqb, ne-eqb}
 use Rattle.terms.specs.declared.Terms.{Terms}
 use Rattle.settlement.specs.Settle.{SettleNumbers, refusedNumbers, settleOf}
-use Rattle.pay_off.specs.PayOff.{PayOffNumbers, contractRefusal, refusedPayOff, pricedPayOff, contractPayOff, payOffOf}
+use Rattle.pay_off.specs.PayOff.{PayOffNumbers, lumpSumNow, contractRefusal, refusedPayOff, pricedPayOff, contractPayOff, payOffOf}
 use Rattle.pay_off.proofs.Contract.{contract-priced, contract-number}
 
 -- what is priced: Settle accepts it, nothing refuses the contract, and these are its numbers
 pub record PricedIs (t : Terms) (ms : List ℕ) (ageNow increase : ℕ) : Type 0 where
   pub settled : settleOf t ms .refusal ≡ 0
   pub none : contractRefusal t (settleOf t ms .status) ageNow increase ≡ 0
-  pub numbers : payOffOf t ms ageNow increase ≡ pricedPayOff t (settleOf t ms .credit) ageNow increase
+  pub numbers : payOffOf t ms ageNow increase ≡ pricedPayOff t (settleOf t ms .credit) (lumpSumNow t ageNow (t .years)) (lumpSumNow t ageNow (t .years + 1)) increase
 
 module _ (t : Terms) (ms : List ℕ) (ageNow increase : ℕ) where
   abbrev settled : SettleNumbers

@@ -1,6 +1,7 @@
 pub mod Costs
 pub mod Contract
 pub mod Laws
+pub mod Settled
 pub mod Complete
 pub mod Told
 pub mod Bounds

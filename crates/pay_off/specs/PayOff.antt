@@ -51,22 +51,23 @@ refusedPayOff n place = record { refusal = n; place = place; remaining = 0; incr
 abbrev pub remainingOf : Terms → (credit : ℕ) → ℕ
 remainingOf t credit = t .amount * 100 - credit
 
--- what remains, the same increased, and its cost at the age now
-abbrev pub pricedPayOff : Terms → (credit ageNow increase : ℕ) → PayOffNumbers
-pricedPayOff t credit ageNow increase =
+-- what remains, the same increased, and its cost at the lump sums of the two pension ages
+abbrev pub pricedPayOff : Terms → (credit lower upper increase : ℕ) → PayOffNumbers
+pricedPayOff t credit lower upper increase =
     let increased = increasedBy increase (remainingOf t credit) in
     record {
       refusal = 0;
       place = 0;
       remaining = remainingOf t credit;
       increased = increased;
-      cost = priceOf increased (lumpSumNow t ageNow (t .years)) (lumpSumNow t ageNow (t .years + 1)) (t .months);
+      cost = priceOf increased lower upper (t .months);
     }
 
--- a contract that Settle accepts, by its status and credit
+-- a contract that Settle accepts, by its status and credit: a refusal, or its price at the age now
 unfoldable pub contractPayOff : Terms → (status credit ageNow increase : ℕ) → PayOffNumbers
 contractPayOff t status credit ageNow increase =
-    pick (eqb (contractRefusal t status ageNow increase) 0) (pricedPayOff t credit ageNow increase)
+    pick (eqb (contractRefusal t status ageNow increase) 0)
+    (pricedPayOff t credit (lumpSumNow t ageNow (t .years)) (lumpSumNow t ageNow (t .years + 1)) increase)
     (refusedPayOff (contractRefusal t status ageNow increase) 0)
 
 -- Pay off: what Settle refuses is refused with Settle's number and place

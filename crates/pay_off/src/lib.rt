@@ -1,6 +1,6 @@
 // Paying off the rest: what a contract lacks of its amount, bought as a lump sum at the age that the member has now.
 ghost use mathlib.Core.Path.{_≡_};
-ghost use mathlib.Core.Bool.{_||_};
+ghost use mathlib.Core.Bool.{false, _||_};
 ghost use Prim.Native.Nat.{_+_, _≤_, _<_, _^_};
 ghost use lib.Dec.{ltb, eqb};
 ghost use Rattle.common.specs.Choice.{pick};
@@ -8,12 +8,11 @@ ghost use Rattle.money.specs.Money.{contribution};
 ghost use Rattle.terms.specs.Rules.{missingUpper};
 ghost use Rattle.election.specs.Told.{Accepted};
 ghost use Rattle.pay_off.specs.Price.{priceOf};
-ghost use Rattle.pay_off.specs.PayOff.{nothingToPayOff, wrongIncrease, lumpSumNow, contractRefusal, contractPayOff, payOffOf, numbersOf, isRefused};
+ghost use Rattle.pay_off.specs.PayOff.{nothingToPayOff, wrongIncrease, lumpSumNow, pricedPayOff, payOffOf, numbersOf, isRefused};
 ghost use Rattle.pay_off.specs.Told.{PricedTold, RefusedTold};
 use election::TableRates;
 use money::ContributionPence;
 use money::PensionPence;
-use settlement::Settlement;
 use terms::Terms;
 
 // The answer: a refusal, or what remains and what it costs.
@@ -77,21 +76,21 @@ fn lump_sums_now(t: Terms, age_now: u32) -> TableRates
     })
 }
 
-fn no_lump_sum(t: Terms, lower: u32, upper: u32) -> bool
-    ensures { λ r. ⌜ r ≡ eqb lower 0 || missingUpper t upper ⌝ }
+fn no_lump_sum(t: Terms, sums: TableRates) -> bool
+    ensures { λ r. ⌜ r ≡ eqb (sums .lower) 0 || missingUpper t (sums .upper) ⌝ }
 {
-    if lower == 0 {
+    if sums.lower == 0 {
         return true;
     }
     if t.months == 0 {
         return false;
     }
-    upper == 0
+    sums.upper == 0
 }
 
 // The first of 16, 17 and 5 that refuses a contract which Settle accepts, else 0.
-fn contract_refusal(t: Terms, status: u32, lower: u32, upper: u32, increase: u32) -> u32
-    ensures { λ r. ⌜ r ≡ pick (nothingToPayOff status) 16 (pick (wrongIncrease increase) 17 (pick (eqb lower 0 || missingUpper t upper) 5 0)) ⌝ }
+fn contract_refusal(t: Terms, status: u32, sums: TableRates, increase: u32) -> u32
+    ensures { λ r. ⌜ r ≡ pick (nothingToPayOff status) 16 (pick (wrongIncrease increase) 17 (pick (eqb (sums .lower) 0 || missingUpper t (sums .upper)) 5 0)) ⌝ }
 {
     if nothing_to_pay_off(status) {
         return 16;
@@ -99,23 +98,19 @@ fn contract_refusal(t: Terms, status: u32, lower: u32, upper: u32, increase: u32
     if wrong_increase(increase) {
         return 17;
     }
-    if no_lump_sum(t, lower, upper) {
+    if no_lump_sum(t, sums) {
         return 5;
     }
     0
 }
 
-// A contract that Settle accepts.
-fn pay_off_contract(t: Terms, status: u32, credit: PensionPence, age_now: u32, increase: u32) -> PayOff
+// What a contract lacks beside its credit, and what that costs.
+fn priced(t: Terms, credit: PensionPence, sums: TableRates, increase: u32) -> PayOff
     requires { ⌜ Accepted t 0 ⌝ }
-    ensures is { λ r. ⌜ numbersOf r ≡ contractPayOff t status (credit .0) «age_now» increase ⌝ }
-    ensures refused { λ r. ⌜ isRefused r ≡ ltb 0 (contractRefusal t status «age_now» increase) ⌝ }
+    requires { ⌜ increase ≤ 9999 ⌝ }
+    ensures is { λ r. ⌜ numbersOf r ≡ pricedPayOff t (credit .0) (sums .lower) (sums .upper) increase ⌝ }
+    ensures accepted { λ r. ⌜ isRefused r ≡ false ⌝ }
 {
-    let sums = lump_sums_now(t, age_now);
-    let refusal = contract_refusal(t, status, sums.lower, sums.upper, increase);
-    if refusal != 0 {
-        return PayOff::Refused { refusal, place: 0 };
-    }
     let remaining = PensionPence::of_pounds(t.amount).less(credit);
     let increased = remaining.increased(increase);
     let cost = price(increased, sums.lower, sums.upper, t.months);
@@ -127,21 +122,27 @@ fn pay_off_contract(t: Terms, status: u32, credit: PensionPence, age_now: u32, i
 }
 
 // The remaining pension, the same increased by so many thousandths, and its cost; or the first refusal and its place. The age now is
-// not compared with the age at the election.
+// not compared with the age at the election. Settle's refusals and credit come from the two functions that `settle` asks for them, which
+// costs its callers less than a second call of `settle` (docs/SPEED.md).
 pub fn pay_off(t: Terms, marks: &[u8], age_now: u32, increase: u32) -> PayOff
     ensures is { λ r. ⌜ numbersOf r ≡ payOffOf t (now (marks .entry)) «age_now» increase ⌝ }
     ensures priced { λ r. ⌜ PricedTold t (now (marks .entry)) (numbersOf r) ⌝ }
     ensures refusals { λ r. ⌜ RefusedTold t (now (marks .entry)) «age_now» increase (numbersOf r) ⌝ }
     ensures refused { λ r. ⌜ isRefused r ≡ ltb 0 (payOffOf t (now (marks .entry)) «age_now» increase .refusal) ⌝ }
 {
-    let answer = settlement::settle(t, marks);
-    match answer {
-        Settlement::Refused { refusal, place } => PayOff::Refused { refusal, place },
-        Settlement::Settled {
-            contribution,
-            status,
-            credit,
-            refund,
-        } => pay_off_contract(t, status, credit, age_now, increase),
+    let e = examination::examine(t, marks);
+    if e.refusal != 0 {
+        return PayOff::Refused {
+            refusal: e.refusal,
+            place: e.place,
+        };
     }
+    let sums = lump_sums_now(t, age_now);
+    let refusal = contract_refusal(t, e.status, sums, increase);
+    if refusal != 0 {
+        return PayOff::Refused { refusal, place: 0 };
+    }
+    let rates = e.rates;
+    let credit = settlement::credit_at_status(t, rates, e.status, marks);
+    priced(t, credit, sums, increase)
 }

@@ -48,7 +48,7 @@ fn earned(t: Terms, rates: TableRates, marks: &[u8]) -> PensionPence
 }
 
 // The credit at a status: nothing when refunded, a lump sum in full.
-fn credit_at_status(t: Terms, rates: TableRates, status: u32, marks: &[u8]) -> PensionPence
+pub fn credit_at_status(t: Terms, rates: TableRates, status: u32, marks: &[u8]) -> PensionPence
     requires { ⌜ ((status ≡ 6 → ⊥) → Monthly t rates) ⌝ }
     requires { ⌜ length (now marks) ≤ 240 ⌝ }
     ensures { λ r. ⌜ r ≡ pension (creditAtStatus t (now (marks .entry)) status) ⌝ }

@@ -1,87 +1,141 @@
--- `pay_off::pay_off` meets its contract: what Settle refuses is refused, and the rest is the contract's.
+-- `pay_off::pay_off` meets its contract: the examination refuses as Settle does, then the contract; what is left is priced.
 -- Assumes nothing.
 use mathlib.Core.Bool.{Bool, true, false}
 use mathlib.Core.List.{List}
-use mathlib.Core.Path.{_≡_, refl, sym, ap, subst, _∙_}
-use Prim.Native.Nat.{ℕ}
+use mathlib.Core.Path.{_≡_, sym, ap, subst, _∙_}
+use Prim.Native.Nat.{ℕ, _+_, _≤_}
 use native.Mathlib.Omega.{arith}
 use lib.Dec.{ltb}
+use lib.ListN.{length}
 use borrow.Author.Needs.{needs}
-use borrow.Author.Tests.{ltb-true}
-use Rattle.money.specs.declared.ContributionPence.{ContributionPence}
+use borrow.Author.Tests.{lt-ltb}
+use Rattle.money.specs.Money.{pension}
 use Rattle.money.specs.declared.PensionPence.{PensionPence}
 use Rattle.terms.specs.declared.Terms.{Terms}
-use Rattle.settlement.specs.declared.Settlement.{Settlement}
-use Rattle.settlement.specs.declared.Settlement.the-variants.{Refused, Settled}
-use Rattle.settlement.specs.Settle.{SettleNumbers, settleOf, numbersOf, isRefused}
-use Rattle.pay_off.specs.PayOff.{PayOffNumbers, contractRefusal, refusedPayOff, contractPayOff, payOffOf}
+use Rattle.election.specs.Told.{Accepted}
+use Rattle.election.specs.declared.TableRates.{TableRates}
+use Rattle.status.proofs.StatusOf.{not-lump}
+use Rattle.examination.specs.declared.Examined.{Examined}
+use Rattle.examination.specs.Examine.{examinedOf, Monthly}
+use Rattle.examination.proofs.Laws.{accepted, few}
+use Rattle.examination.proofs.Examination.{examined-none, examined-status, examined-monthly}
+use Rattle.settlement.specs.Settle.{creditAtStatus, settleOf}
+use Rattle.pay_off.specs.PayOff.{PayOffNumbers, lumpSumNow, contractRefusal, refusedPayOff, pricedPayOff, contractPayOff, payOffOf}
 use Rattle.pay_off.specs.Told.{PricedTold, RefusedTold}
+use Rattle.pay_off.proofs.Contract.{contract-refused, contract-priced, passes, refusal-is, price-is}
 use Rattle.pay_off.proofs.Laws.{settle-refuses, contract-decides, decided-number}
-use Rattle.pay_off.proofs.Told.{settled-terms, priced-told, refused-told}
+use Rattle.pay_off.proofs.Settled.{same-refusal, same-place, same-status, same-credit}
+use Rattle.pay_off.proofs.Told.{priced-told, refused-told}
 use Rattle.pay_off.proofs.pay_off.Statement.{statement}
 use Rattle.pay_off.proofs.pay_off.Tie as tie
 
 module _ (t : Terms) (ms : List ℕ) (ageNow increase : ℕ) where
-  -- what holds of the defined numbers holds of equal ones; b says whether the answer is a refusal
-  near : {n : PayOffNumbers} {b : Bool} → n ≡ payOffOf t ms ageNow increase → b ≡ ltb 0 (payOffOf t ms ageNow increase .refusal)
-      → (n ≡ payOffOf t ms ageNow increase)
-      × (PricedTold t ms n × (RefusedTold t ms ageNow increase n × (b ≡ ltb 0 (payOffOf t ms ageNow increase .refusal))))
+  abbrev answer : PayOffNumbers
+  answer = payOffOf t ms ageNow increase
+
+  -- all that is promised of numbers n, where b says whether they are a refusal
+  abbrev Promised : PayOffNumbers → Bool → Type 0
+  Promised n b = (n ≡ answer) × (PricedTold t ms n × (RefusedTold t ms ageNow increase n × (b ≡ ltb 0 (answer .refusal))))
+
+  near : {n : PayOffNumbers} {b : Bool} → n ≡ answer → b ≡ ltb 0 (n .refusal) → Promised n b
   near is says =
-      (is, (subst (PricedTold t ms) (sym is) (priced-told t ms ageNow increase), (subst (RefusedTold t ms ageNow increase) (sym is) (refused-told t ms ageNow increase), says)))
+      (is, (subst (PricedTold t ms) (sym is) (priced-told t ms ageNow increase), (subst (RefusedTold t ms ageNow increase) (sym is) (refused-told t ms ageNow increase), says ∙ ap (λ (n : PayOffNumbers). ltb 0 (n .refusal)) is)))
 
-  module _ {s : Settlement} (is : numbersOf s ≡ settleOf t ms) (says : isRefused s ≡ ltb 0 (settleOf t ms .refusal)) where
-    refused : {n i : ℕ} → s ≡ Refused n i
-        → (refusedPayOff n i ≡ payOffOf t ms ageNow increase) × (true ≡ ltb 0 (payOffOf t ms ageNow increase .refusal))
-    refused {n} {i} e =
-        let numbers = sym (ap numbersOf e) ∙ is in
-        let true-is : true ≡ ltb 0 (settleOf t ms .refusal) = sym (ap isRefused e) ∙ says in
-        let whole = settle-refuses t ms ageNow increase (λ z. omega (arith, ltb-true 0 (settleOf t ms .refusal) (sym true-is))) in
-        (ap (λ (m : SettleNumbers). refusedPayOff (m .refusal) (m .place)) numbers ∙ sym whole, true-is ∙ sym (ap (λ (m : PayOffNumbers). ltb 0 (m .refusal)) whole))
+  refusal-said : (n : ℕ) → (n ≡ 0 → ⊥) → true ≡ ltb 0 n
+  refusal-said n some = sym (lt-ltb 0 n (omega (arith, some)))
 
-    module _ {own : ContributionPence} {status : ℕ} {held : PensionPence} {back : ContributionPence} (e : s ≡ Settled own status held back) where
-      numbers : _≡_ {A = SettleNumbers}
-          (record { refusal = 0; place = 0; contribution = own .0; status = status; credit = held .0; refund = back .0 })
-          (settleOf t ms)
-      numbers = sym (ap numbersOf e) ∙ is
+  module _ {e : Examined} (is : e ≡ examinedOf t ms) where
+    -- refused as Settle refuses
+    first : (e .refusal ≡ 0 → ⊥) → Promised (refusedPayOff (e .refusal) (e .place)) true
+    first some =
+        let number = same-refusal t ms is in
+        let whole = settle-refuses t ms ageNow increase (λ z. some (number ∙ z)) in
+        near (rw (number, same-place t ms is some) (sym whole)) (refusal-said (e .refusal) some)
 
-      none : settleOf t ms .refusal ≡ 0
-      none = sym (ap (λ (m : SettleNumbers). m .refusal) numbers)
+    module _ (none : e .refusal ≡ 0) where
+      -- what the credit and the price require
+      monthly : ((e .status ≡ 6 → ⊥) → Monthly t (e .rates)) × (length ms ≤ 240)
+      monthly =
+          let passed = examined-none t ms is none in
+          (λ other. examined-monthly t ms is passed (not-lump (t .term) ms (rw (examined-status t ms is passed) at other)), few t ms passed)
 
-      priced : {n : PayOffNumbers} {b : Bool} → n ≡ contractPayOff t status (held .0) ageNow increase
-          → b ≡ ltb 0 (contractRefusal t status ageNow increase)
-          → (n ≡ payOffOf t ms ageNow increase) × (b ≡ ltb 0 (payOffOf t ms ageNow increase .refusal))
-      priced a r = (
-        a ∙ ap (λ (m : SettleNumbers). contractPayOff t (m .status) (m .credit) ageNow increase) numbers ∙ sym (contract-decides t ms ageNow increase none),
-        r ∙ ap (λ (m : SettleNumbers). ltb 0 (contractRefusal t (m .status) ageNow increase)) numbers ∙ sym (ap (ltb 0) (decided-number t ms ageNow increase none)),
-      )
+      accepted-terms : Accepted t 0
+      accepted-terms = accepted t ms (examined-none t ms is none)
 
-settle-requires : tie.Need-settle-requires
-settle-requires c κs = search needs
+      decides : answer ≡ contractPayOff t (e .status) (creditAtStatus t ms (e .status)) ageNow increase
+      decides =
+          contract-decides t ms ageNow increase (sym (same-refusal t ms is) ∙ none)
+          ∙ rw (same-credit t ms is none, same-status t ms is none)
 
-enum-known-answer : tie.Need-enum-known-answer
-enum-known-answer c = search needs
+      -- refused by the contract
+      second : {n : ℕ} → n ≡ contractRefusal t (e .status) ageNow increase → (n ≡ 0 → ⊥) → Promised (refusedPayOff n 0) true
+      second {n} e-is some =
+          let refused = contract-refused t (e .status) (creditAtStatus t ms (e .status)) ageNow increase (λ z. some (e-is ∙ z)) in
+          near (ap (λ (k : ℕ). refusedPayOff k 0) e-is ∙ sym (decides ∙ refused)) (refusal-said n some)
 
-enum-known-answer-2 : tie.Need-enum-known-answer-2
-enum-known-answer-2 c = search needs
+      -- priced
+      third : {n : PayOffNumbers} {b : Bool} {held : PensionPence} {sums : TableRates} → contractRefusal t (e .status) ageNow increase ≡ 0
+          → sums .lower ≡ lumpSumNow t ageNow (t .years) → ((t .months ≡ 0 → ⊥) → sums .upper ≡ lumpSumNow t ageNow (t .years + 1))
+          → held ≡ pension (creditAtStatus t ms (e .status))
+          → (n ≡ pricedPayOff t (held .0) (sums .lower) (sums .upper) increase) × (b ≡ false) → Promised n b
+      third {n} {b} {held} {sums} z low high h told =
+          let price : n ≡ pricedPayOff t (creditAtStatus t ms (e .status)) (sums .lower) (sums .upper) increase = told .0 ∙ rw h in
+          let is-answer : n ≡ answer =
+          price ∙ price-is t (e .status) (creditAtStatus t ms (e .status)) ageNow increase low high
+          ∙ sym (decides ∙ contract-priced t (e .status) (creditAtStatus t ms (e .status)) ageNow increase z) in
+          near is-answer (told .1 ∙ sym (ap (λ (m : PayOffNumbers). ltb 0 (m .refusal)) price))
 
-pay-off-contract-requires : tie.Need-pay-off-contract-requires
-pay-off-contract-requires c κs =
-    let s = c .before .before .before .settle .ensures in
-    settled-terms _ _ (none _ _ 0 0 (s .0) (s .1 .1 .1) (c .before .answer2 .given .1))
+examine-requires : tie.Need-examine-requires
+examine-requires c κs = search needs
 
 returns : tie.Need-returns
-returns c =
-    let s = c .before .before .before .settle .ensures in
-    let told = refused _ _ _ _ (s .0) (s .1 .1 .1) (c .before .answer .given .1) in
-    near _ _ _ _ (told .0) (told .1)
+returns c = first _ _ _ _ (c .before .before .examine .ensures) (c .if1 .taken)
+
+lump-sums-now-requires : tie.Need-lump-sums-now-requires
+lump-sums-now-requires c κs = search needs
+
+contract-refusal-requires : tie.Need-contract-refusal-requires
+contract-refusal-requires c κs = search needs
 
 returns-2 : tie.Need-returns-2
 returns-2 c =
-    let s = c .before .before .before .before .settle .ensures in
-    let told = priced _ _ _ _ (s .0) (s .1 .1 .1) (c .before .before .answer2 .given .1) (c .pay-off-contract .ensures .0) (c .pay-off-contract .ensures .1) in
-    near _ _ _ _ (told .0) (told .1)
+    let b = c .before .before .before in
+    let sums = c .before .before .lump-sums-now .ensures in
+    second _ _ _ _ (b .before .before .examine .ensures) (b .if1 .left)
+    (refusal-is _ _ 0 _ _ (sums .0) (sums .1) (c .before .contract-refusal .ensures)) (c .if2 .taken)
+
+credit-at-status-requires : tie.Need-credit-at-status-requires
+credit-at-status-requires c κs =
+    let b = c .before .before .before .before in
+    monthly _ _ 0 0 (b .before .before .examine .ensures) (b .if1 .left)
+
+priced-requires : tie.Need-priced-requires
+priced-requires c κs =
+    let decided = c .before .before .before in
+    let b = decided .before .before in
+    let sums = decided .before .lump-sums-now .ensures in
+    let t = b .before .before .before .before .args .t in
+    let told = refusal-is t _ 0 _ _ (sums .0) (sums .1) (decided .contract-refusal .ensures) in
+    (accepted-terms _ _ 0 0 (b .before .before .examine .ensures) (b .if1 .left), passes t _ 0 _ _ (sym told ∙ c .before .before .if2 .left) .increase-high)
+
+returns-3 : tie.Need-returns-3
+returns-3 c =
+    let decided = c .before .before .before .before in
+    let b = decided .before .before in
+    let sums = decided .before .lump-sums-now .ensures in
+    let told = refusal-is _ _ 0 _ _ (sums .0) (sums .1) (decided .contract-refusal .ensures) in
+    third _ _ _ _ (b .before .before .examine .ensures) (b .if1 .left) (sym told ∙ c .before .before .before .if2 .left) (sums .0) (sums .1)
+    (c .before .credit-at-status .ensures) (c .priced .ensures)
 
 pub pay-off-spec : {M : Type 1} → statement M
 pay-off-spec =
     tie.close
-    (tie.spec settle-requires enum-known-answer enum-known-answer-2 pay-off-contract-requires returns returns-2)
+    (tie.spec
+    examine-requires
+    returns
+    lump-sums-now-requires
+    contract-refusal-requires
+    returns-2
+    credit-at-status-requires
+    priced-requires
+    returns-3)
