@@ -24,6 +24,9 @@ const SETTLE: u64 = 15;
 // Terms, marks, entries of the lent list.
 const SCHEDULE: u64 = 16;
 
+// Terms, marks, the age now, the increase in thousandths.
+const PAY_OFF: u64 = 17;
+
 // The worked examples of document 000, its headroom, and its examples A1 to A4.
 pub const DOCUMENT_000: [u64; 218] = [
     QUOTE, 40, 67, 0, 1, 1,  0, 2000, 0, 0, // example 1
@@ -189,4 +192,41 @@ pub const EDGES: [u64; 1495] = [
     SCHEDULE, 50, 65, 0, 2, 1,  5, 1000, 1,  2, 2, 1, 1, 1, 0, 0,  5, // 12
     SCHEDULE, 50, 65, 0, 2, 1,  5, 1000, 1, 61, 0, 0, 0, 0, 0, 0,  5, // 10
     SCHEDULE, 50, 65, 0, 3, 1,  5, 1000, 1,  1, 0, 0, 0, 0, 0, 0,  5, // 1
+];
+
+// Contracts paid off, by request 1 of document 02. A remark that starts with a number names the refusal.
+pub const PAY_OFFS: [u64; 594] = [
+    PAY_OFF, 50, 65, 0, 2, 1,  5, 1000, 1, 18, 0,  0, 0,  0, 0, 0, 51,  1011, // eighteen paid
+    PAY_OFF, 50, 65, 0, 2, 1,  5, 1000, 1, 18, 0,  4, 1,  6, 0, 0, 52,  1011, // with the gap
+    PAY_OFF, 50, 65, 0, 2, 1,  5, 1000, 1, 18, 0,  4, 0,  0, 0, 0, 51,  1011, // in the gap
+    PAY_OFF, 50, 65, 0, 2, 1,  5, 1000, 1, 12, 2,  1, 0,  0, 0, 0, 51,  1011, // ceased
+    PAY_OFF, 50, 65, 0, 2, 1,  5, 1000, 1, 60, 0,  0, 0,  0, 0, 0, 55,  1011, // complete
+    PAY_OFF, 50, 65, 0, 2, 1,  5, 1000, 1, 59, 0,  1, 0,  0, 0, 0, 55,  1011, // ceased with a month missed
+    PAY_OFF, 54, 66, 5, 2, 1, 10, 1750, 1, 30, 0,  0, 0,  0, 0, 0, 56,  1011, // both tables
+    PAY_OFF, 60, 66, 5, 1, 1,  4, 1500, 1,  9, 0,  0, 0,  0, 0, 0, 61,  1011, // document 001's example 5 at this scheme's rates
+    PAY_OFF, 50, 65, 0, 2, 1,  5, 1000, 1, 18, 0,  0, 0,  0, 0, 0, 51,  1000, // the lowest increase
+    PAY_OFF, 50, 65, 0, 2, 1,  5, 1000, 1, 18, 0,  0, 0,  0, 0, 0, 51,  9999, // the highest
+    PAY_OFF, 50, 65, 0, 2, 1,  5, 1000, 1, 18, 0,  4, 1,  6, 0, 0, 52,  1500, // a half penny goes up
+    PAY_OFF, 50, 65, 0, 2, 1,  5, 1000, 1, 18, 0,  0, 0,  0, 0, 0, 16,  1011, // the lowest age now, below that at the election
+    PAY_OFF, 50, 65, 0, 2, 1,  5, 1000, 1, 18, 0,  0, 0,  0, 0, 0, 64,  1011, // the highest
+    PAY_OFF, 63, 65, 0, 2, 1,  1, 6500, 1,  1, 0,  0, 0,  0, 0, 0, 64,  9999, // the greatest amount at the highest of both
+    PAY_OFF, 50, 65, 0, 2, 1,  5, 1000, 1, 11, 2,  1, 0,  0, 0, 0, 51,  1011, // 16: refunded
+    PAY_OFF, 50, 65, 0, 2, 1,  5, 1000, 0,  0, 0,  0, 0,  0, 0, 0, 50,  1011, // 16: no marks
+    PAY_OFF, 40, 67, 0, 1, 1,  0, 2000, 0,  0, 0,  0, 0,  0, 0, 0, 40,  1011, // 16: lump sum
+    PAY_OFF, 50, 65, 0, 2, 1,  5, 1000, 1, 18, 0,  0, 0,  0, 0, 0, 51,   999, // 17
+    PAY_OFF, 50, 65, 0, 2, 1,  5, 1000, 1, 18, 0,  0, 0,  0, 0, 0, 51, 10000, // 17
+    PAY_OFF, 50, 65, 0, 2, 1,  5, 1000, 1, 18, 0,  0, 0,  0, 0, 0, 51,     0, // 17
+    PAY_OFF, 50, 65, 0, 2, 1,  5, 1000, 1, 18, 0,  0, 0,  0, 0, 0, 51, 4294967295, // 17
+    PAY_OFF, 50, 65, 0, 2, 1,  5, 1000, 1, 18, 0,  0, 0,  0, 0, 0, 65,  1011, // 5
+    PAY_OFF, 50, 65, 0, 2, 1,  5, 1000, 1, 60, 0,  0, 0,  0, 0, 0, 65,  1011, // 5: complete
+    PAY_OFF, 50, 65, 0, 2, 1,  5, 1000, 1, 18, 0,  0, 0,  0, 0, 0, 15,  1011, // 5
+    PAY_OFF, 50, 65, 0, 2, 1,  5, 1000, 1, 18, 0,  0, 0,  0, 0, 0, 4294967295,  1011, // 5
+    PAY_OFF, 50, 65, 0, 2, 1,  5, 1000, 1, 11, 2,  1, 0,  0, 0, 0, 65,   999, // 16 before 17 and 5
+    PAY_OFF, 40, 67, 0, 1, 1,  0, 2000, 0,  0, 0,  0, 0,  0, 0, 0, 65,   999, // 16 before 17 and 5: lump sum
+    PAY_OFF, 50, 65, 0, 2, 1,  5, 1000, 1, 60, 0,  0, 0,  0, 0, 0, 65, 10000, // 17 before 5: complete
+    PAY_OFF, 50, 65, 0, 2, 1,  5, 1100, 1, 18, 0,  0, 0,  0, 0, 0, 65,   999, // 7, as Settle refuses
+    PAY_OFF, 64, 65, 0, 2, 1,  1, 1000, 1,  1, 0,  0, 0,  0, 0, 0, 64,  1011, // 5, as Settle refuses
+    PAY_OFF, 50, 65, 0, 2, 1,  5, 1000, 1, 61, 0,  0, 0,  0, 0, 0, 65,   999, // 10, as Settle refuses
+    PAY_OFF, 50, 65, 0, 2, 1,  5, 1000, 1,  3, 3,  1, 0,  0, 0, 0, 65,   999, // 11 at 3, as Settle refuses
+    PAY_OFF, 50, 65, 0, 2, 1,  5, 1000, 1,  1, 0, 12, 1,  1, 0, 0, 65,   999, // 12 at 13, as Settle refuses
 ];

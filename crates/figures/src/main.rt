@@ -1,5 +1,5 @@
-// The documents' figures, and the cap decision, Quote, Settle and Schedule at their edges, one to a line: what is asked, then what
-// the part gives, money in pence. The figures that are marked as proved are rows of crate `rows`; the file stdout holds what the
+// The documents' figures, and the cap decision, Quote, Settle, Schedule and the pay-off at their edges, one to a line: what is asked,
+// then what the part gives, money in pence. The figures that are marked as proved are rows of crate `rows`; the file stdout holds what the
 // others must be. Posting and the member total are run by program `posting`.
 mod cases;
 mod elapsed;
@@ -25,9 +25,14 @@ fn edges() {
     print_table(b"", &cases::EDGES);
 }
 
+fn pay_offs() {
+    print_table(b"02 ", &cases::PAY_OFFS);
+}
+
 fn main() {
     document_000();
     document_001();
     document_01();
     edges();
+    pay_offs();
 }

@@ -7,6 +7,7 @@ use crate::elapsed;
 use crate::elapsed::Elapsed;
 use crate::line;
 use money::PensionPence;
+use pay_off::PayOff;
 use quotes::QuoteAnswer;
 use quotes::Quoted;
 use quotes::Register;
@@ -150,6 +151,30 @@ fn schedule(row: &[u64]) {
     );
 }
 
+// Refusal, place, remaining and increased pension, cost.
+fn pay_off_numbers(answer: PayOff) -> [u64; 6] {
+    match answer {
+        PayOff::Refused { refusal, place } => [refusal as u64, place as u64, 0, 0, 0, 0],
+        PayOff::Priced {
+            remaining,
+            increased,
+            cost,
+        } => [0, 0, remaining.0, increased.0, cost.0, 0],
+    }
+}
+
+fn pay_off(row: &[u64]) {
+    let months = marks(row);
+    let all = months.marks;
+    let elapsed = elapsed::first(&all, months.count);
+    let answer = pay_off::pay_off(terms(row), elapsed, narrow(row, 15), narrow(row, 16));
+    line::filled(
+        b"pay-off* is refusal# place# remaining# increased# cost#",
+        row,
+        pay_off_numbers(answer),
+    );
+}
+
 // By the number of its columns, as cases.rt names them; any other row prints nothing.
 fn print_row(row: &[u64]) {
     match row.len() {
@@ -160,6 +185,7 @@ fn print_row(row: &[u64]) {
         9 => quote(row),
         15 => settle(row),
         16 => schedule(row),
+        17 => pay_off(row),
         _ => {}
     }
 }
