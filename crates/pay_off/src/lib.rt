@@ -111,7 +111,8 @@ fn priced(t: Terms, credit: PensionPence, sums: TableRates, increase: u32) -> Pa
     ensures is { λ r. ⌜ numbersOf r ≡ pricedPayOff t (credit .0) (sums .lower) (sums .upper) increase ⌝ }
     ensures accepted { λ r. ⌜ isRefused r ≡ false ⌝ }
 {
-    let remaining = PensionPence::of_pounds(t.amount).less(credit);
+    let whole = PensionPence::of_pounds(t.amount);
+    let remaining = whole.less(credit);
     let increased = remaining.increased(increase);
     let cost = price(increased, sums.lower, sums.upper, t.months);
     PayOff::Priced {
