@@ -1,7 +1,7 @@
 -- How large the numbers of a pay-off can be.
 -- Assumes nothing.
 use mathlib.Core.List.{List}
-use mathlib.Core.Path.{_≡_, ap}
+use mathlib.Core.Path.{_≡_}
 use Prim.Native.Nat.{ℕ, _≤_}
 use native.Mathlib.Decide.{ℕ-discrete}
 use native.Mathlib.Omega.{arith}

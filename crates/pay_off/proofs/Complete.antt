@@ -1,6 +1,6 @@
 -- A complete contract is one whose every month is paid, so its credit is the amount.
 -- Assumes nothing.
-use mathlib.Core.Bool.{Bool, true, false, _&&_}
+use mathlib.Core.Bool.{true, _&&_}
 use mathlib.Core.List.{List, [], _∷_}
 use mathlib.Core.Path.{_≡_, refl, sym, ap, _∙_}
 use Prim.Native.Nat.{ℕ, _*_, _<_}
@@ -8,7 +8,6 @@ use native.Mathlib.Omega.{arith}
 use lib.Dec.{ltb, leb, eqb}
 use lib.ListN.{length, replicate}
 use borrow.Author.Tests.{eqb-true, eqb-false}
-use Rattle.common.specs.Choice.{pick}
 use Rattle.common.proofs.Choice.{either, not-first}
 use Rattle.common.proofs.Tests.{by-test, never}
 use Rattle.terms.specs.declared.Terms.{Terms}

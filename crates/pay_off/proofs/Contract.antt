@@ -1,19 +1,18 @@
 -- The pay-off of a contract that Settle accepts: what refuses it, and what holds where nothing does.
 -- Assumes nothing.
-use mathlib.Core.Bool.{true, false, _||_}
-use mathlib.Core.Path.{_≡_, refl, sym, ap, _∙_}
-use Prim.Native.Nat.{ℕ, _+_, _*_, _-_, _≤_, _<_, _^_}
+use mathlib.Core.Bool.{false, _||_}
+use mathlib.Core.Path.{_≡_, refl, ap, _∙_}
+use Prim.Native.Nat.{ℕ, _+_, _-_, _≤_}
 use native.Mathlib.Omega.{arith}
 use lib.Dec.{ltb, eqb}
-use borrow.Author.Tests.{lt-ltb, ltb-false, eq-eqb, ne-eqb, eqb-false}
+use borrow.Author.Tests.{ltb-false, eq-eqb, ne-eqb, eqb-false}
 use Rattle.common.specs.Choice.{pick}
 use Rattle.common.proofs.Choice.{not-first, chosen-number}
 use Rattle.common.proofs.Tests.{by-test, or-false}
-use Rattle.rounding.specs.Nearest.{halfUp}
 use Rattle.terms.specs.declared.Terms.{Terms}
 use Rattle.terms.specs.Rules.{missingUpper}
 use Rattle.election.specs.declared.TableRates.{TableRates}
-use Rattle.pay_off.specs.Price.{increasedBy, priceOf}
+use Rattle.pay_off.specs.Price.{increasedBy}
 use Rattle.pay_off.specs.PayOff.{PayOffNumbers, nothingToPayOff, wrongIncrease, lumpSumNow, noLumpSumNow, contractRefusal, refusedPayOff, remainingOf, pricedPayOff, contractPayOff}
 use Rattle.pay_off.proofs.Costs.{price-upper}
 

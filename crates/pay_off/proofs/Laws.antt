@@ -1,15 +1,12 @@
 -- The outcomes of a pay-off, for callers that do not open it.
 -- Assumes nothing.
-use mathlib.Core.Bool.{Bool, true, false}
 use mathlib.Core.List.{List}
-use mathlib.Core.Path.{_≡_, refl, sym, ap, _∙_}
-use Prim.Native.Nat.{ℕ, _+_, _<_}
+use mathlib.Core.Path.{_≡_, sym, ap, _∙_}
+use Prim.Native.Nat.{ℕ, _+_}
 use native.Mathlib.Decide.{ℕ-discrete}
-use native.Mathlib.Omega.{arith}
-use lib.Dec.{ltb}
-use borrow.Author.Tests.{ltb-true, eq-eqb, ne-eqb}
+use borrow.Author.Tests.{eq-eqb, ne-eqb}
 use Rattle.terms.specs.declared.Terms.{Terms}
-use Rattle.settlement.specs.Settle.{SettleNumbers, refusedNumbers, settleOf}
+use Rattle.settlement.specs.Settle.{SettleNumbers, settleOf}
 use Rattle.pay_off.specs.PayOff.{PayOffNumbers, lumpSumNow, contractRefusal, refusedPayOff, pricedPayOff, contractPayOff, payOffOf}
 use Rattle.pay_off.proofs.Contract.{contract-priced, contract-number}
 

@@ -5,12 +5,10 @@ use mathlib.Core.List.{List}
 use mathlib.Core.Logic.{inl, inr, ⊎-elim}
 use mathlib.Core.Path.{_≡_, refl, sym, ap, _∙_}
 use Prim.Native.Nat.{ℕ, _+_, _*_, _≤_, _<_}
-use native.Mathlib.Nat.{le-antisymm}
 use native.Mathlib.Omega.{arith}
 use lib.Dec.{eqb}
 use borrow.Author.Tests.{eq-eqb, eqb-true, eqb-false}
-use Rattle.common.specs.Choice.{pick}
-use Rattle.common.proofs.Choice.{either, not-first}
+use Rattle.common.proofs.Choice.{not-first}
 use Rattle.common.proofs.Tests.{by-test, or-false, or-true}
 use Rattle.rates.proofs.Laws.{lump-printed, lump-shown, lump-none, lump-above}
 use Rattle.terms.specs.declared.Terms.{Terms}
@@ -23,7 +21,6 @@ use Rattle.examination.proofs.Laws.{accepted}
 use Rattle.settlement.specs.Settle.{SettleNumbers, settleOf}
 use Rattle.settlement.proofs.Laws.{settle-settled, settle-refusal}
 use Rattle.settlement.proofs.Bounds.{settle-credit-most}
-use Rattle.pay_off.specs.Price.{increasedBy, priceOf}
 use Rattle.pay_off.specs.PayOff.{PayOffNumbers, nothingToPayOff, wrongIncrease, lumpSumNow, noLumpSumNow, contractRefusal, payOffOf}
 use Rattle.pay_off.specs.Told.{PricedTold, LacksLumpSum, RefusedTold}
 use Rattle.pay_off.proofs.Costs.{increased-least, increased-none, price-least, price-none}

@@ -19,11 +19,11 @@ use Rattle.examination.specs.declared.Examined.{Examined}
 use Rattle.examination.specs.Examine.{examinedOf, Monthly}
 use Rattle.examination.proofs.Laws.{accepted, few}
 use Rattle.examination.proofs.Examination.{examined-none, examined-status, examined-monthly}
-use Rattle.settlement.specs.Settle.{creditAtStatus, settleOf}
+use Rattle.settlement.specs.Settle.{creditAtStatus}
 use Rattle.pay_off.specs.PayOff.{PayOffNumbers, lumpSumNow, contractRefusal, refusedPayOff, pricedPayOff, contractPayOff, payOffOf}
 use Rattle.pay_off.specs.Told.{PricedTold, RefusedTold}
 use Rattle.pay_off.proofs.Contract.{contract-refused, contract-priced, passes, refusal-is, price-is}
-use Rattle.pay_off.proofs.Laws.{settle-refuses, contract-decides, decided-number}
+use Rattle.pay_off.proofs.Laws.{settle-refuses, contract-decides}
 use Rattle.pay_off.proofs.Settled.{same-refusal, same-place, same-status, same-credit}
 use Rattle.pay_off.proofs.Told.{priced-told, refused-told}
 use Rattle.pay_off.proofs.pay_off.Statement.{statement}
