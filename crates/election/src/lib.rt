@@ -59,7 +59,7 @@ fn wrong_amount(t: Terms) -> bool
 }
 
 // Whether the upper pension age is needed and has no rate.
-fn missing_upper(t: Terms, upper: u32) -> bool
+pub fn missing_upper(t: Terms, upper: u32) -> bool
     ensures { λ r. ⌜ r ≡ missingUpper t upper ⌝ }
 {
     if t.months == 0 {

@@ -195,7 +195,7 @@ pub const EDGES: [u64; 1495] = [
 ];
 
 // Contracts paid off, by request 1 of document 02. A remark that starts with a number names the refusal.
-pub const PAY_OFFS: [u64; 594] = [
+pub const PAY_OFFS: [u64; 612] = [
     PAY_OFF, 50, 65, 0, 2, 1,  5, 1000, 1, 18, 0,  0, 0,  0, 0, 0, 51,  1011, // eighteen paid
     PAY_OFF, 50, 65, 0, 2, 1,  5, 1000, 1, 18, 0,  4, 1,  6, 0, 0, 52,  1011, // with the gap
     PAY_OFF, 50, 65, 0, 2, 1,  5, 1000, 1, 18, 0,  4, 0,  0, 0, 0, 51,  1011, // in the gap
@@ -203,6 +203,7 @@ pub const PAY_OFFS: [u64; 594] = [
     PAY_OFF, 50, 65, 0, 2, 1,  5, 1000, 1, 60, 0,  0, 0,  0, 0, 0, 55,  1011, // complete
     PAY_OFF, 50, 65, 0, 2, 1,  5, 1000, 1, 59, 0,  1, 0,  0, 0, 0, 55,  1011, // ceased with a month missed
     PAY_OFF, 54, 66, 5, 2, 1, 10, 1750, 1, 30, 0,  0, 0,  0, 0, 0, 56,  1011, // both tables
+    PAY_OFF, 50, 68, 0, 1, 1,  5, 1000, 1, 18, 0,  0, 0,  0, 0, 0, 51,  1011, // the latest pension age, which needs no upper lump sum
     PAY_OFF, 60, 66, 5, 1, 1,  4, 1500, 1,  9, 0,  0, 0,  0, 0, 0, 61,  1011, // document 001's example 5 at this scheme's rates
     PAY_OFF, 50, 65, 0, 2, 1,  5, 1000, 1, 18, 0,  0, 0,  0, 0, 0, 51,  1000, // the lowest increase
     PAY_OFF, 50, 65, 0, 2, 1,  5, 1000, 1, 18, 0,  0, 0,  0, 0, 0, 51,  9999, // the highest

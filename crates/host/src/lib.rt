@@ -161,7 +161,7 @@ pub extern "C" fn ap_pay_off(
         term,
         amount,
     };
-    let told = pay_off_numbers(pay_off::pay_off(t, marks, age_now, increase));
-    number_bytes::put_all(out, &told);
-    told[0] as u32
+    let answer = pay_off_numbers(pay_off::pay_off(t, marks, age_now, increase));
+    number_bytes::put_all(out, &answer);
+    answer[0] as u32
 }

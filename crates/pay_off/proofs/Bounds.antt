@@ -35,9 +35,9 @@ module _ (t : Terms) (ms : List ℕ) (ageNow increase : ℕ) where
           → PayOffBounds (payOffOf t ms ageNow increase)
       by-contract z (yes none) =
           let a = settled-terms t ms z in
-          let pass = passes t (settled .status) (settled .credit) ageNow increase none in
+          let pass = passes t (settled .status) ageNow increase none in
           let more = increased-most increase (remainingOf t (settled .credit)) (pass .increase-high) (omega (arith, a .under-cap)) in
-          rw (contract-decides t ms ageNow increase z, contract-priced t (settled .status) (settled .credit) ageNow increase none)
+          rw (contract-decides t ms ageNow increase z, contract-priced t (settled .status) ageNow increase (settled .credit) none)
           record {
             refusal-most = omega arith;
             place-most = omega arith;
@@ -46,7 +46,7 @@ module _ (t : Terms) (ms : List ℕ) (ageNow increase : ℕ) where
             cost-most = price-most _ _ _ (t .months) (omega (arith, a .pension-age .months-high)) more (lump-most (t .option) (t .years) ageNow) (lump-most (t .option) _ ageNow);
           }
       by-contract z (no some) =
-          rw (contract-decides t ms ageNow increase z, contract-refused t (settled .status) (settled .credit) ageNow increase some)
+          rw (contract-decides t ms ageNow increase z, contract-refused t (settled .status) ageNow increase (settled .credit) some)
           record {
             refusal-most = contract-refusal-most t (settled .status) ageNow increase;
             place-most = omega arith;

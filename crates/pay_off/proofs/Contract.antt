@@ -2,7 +2,7 @@
 -- Assumes nothing.
 use mathlib.Core.Bool.{false, _||_}
 use mathlib.Core.Path.{_≡_, refl, ap, _∙_}
-use Prim.Native.Nat.{ℕ, _+_, _-_, _≤_}
+use Prim.Native.Nat.{ℕ, _+_, _≤_}
 use native.Mathlib.Omega.{arith}
 use lib.Dec.{ltb, eqb}
 use borrow.Author.Tests.{ltb-false, eq-eqb, ne-eqb, eqb-false}
@@ -27,30 +27,20 @@ pub record Passes (t : Terms) (status ageNow increase : ℕ) : Type 0 where
 missing-same : (t : Terms) (a b : ℕ) → ((t .months ≡ 0 → ⊥) → a ≡ b) → missingUpper t a ≡ missingUpper t b
 missing-same t a b h = by-test (eqb (t .months) 0) (λ e. rw e) (λ e. ap (missingUpper t) (h (eqb-false (t .months) 0 e)))
 
-module _ (t : Terms) (status credit ageNow increase : ℕ) where
-  abbrev lower : ℕ
+-- the two lump sums of a contract
+module _ (t : Terms) (ageNow : ℕ) where
+  abbrev pub lower : ℕ
   lower = lumpSumNow t ageNow (t .years)
 
-  abbrev upper : ℕ
+  abbrev pub upper : ℕ
   upper = lumpSumNow t ageNow (t .years + 1)
 
-  -- the two outcomes
-  pub contract-refused : (contractRefusal t status ageNow increase ≡ 0 → ⊥)
-      → contractPayOff t status credit ageNow increase ≡ refusedPayOff (contractRefusal t status ageNow increase) 0
-  unfolding contractPayOff
-  contract-refused some = rw (ne-eqb _ _ some)
+  -- as the code has them, looked up: the upper one with odd months only
+  pub record LookedUp (sums : TableRates) : Type 0 where
+    pub low : sums .lower ≡ lower
+    pub high : (t .months ≡ 0 → ⊥) → sums .upper ≡ upper
 
-  pub contract-priced : contractRefusal t status ageNow increase ≡ 0
-      → contractPayOff t status credit ageNow increase ≡ pricedPayOff t credit lower upper increase
-  unfolding contractPayOff
-  contract-priced none = rw (eq-eqb _ _ none)
-
-  pub contract-number : contractPayOff t status credit ageNow increase .refusal ≡ contractRefusal t status ageNow increase
-  unfolding contractPayOff
-  contract-number =
-      chosen-number (λ (n : PayOffNumbers). n .refusal) (contractRefusal t status ageNow increase)
-      (pricedPayOff t credit lower upper increase) (refusedPayOff (contractRefusal t status ageNow increase) 0) refl refl
-
+module _ (t : Terms) (status ageNow increase : ℕ) where
   pub passes : contractRefusal t status ageNow increase ≡ 0 → Passes t status ageNow increase
   unfolding contractRefusal wrongIncrease
   passes none =
@@ -64,13 +54,33 @@ module _ (t : Terms) (status credit ageNow increase : ℕ) where
         printed = not-first (λ (n : ℕ). n ≡ 0) (noLumpSumNow t ageNow) 5 0 (λ z. omega arith) (increase-fit .1) .0;
       }
 
-  -- the same from two lump sums that were looked up, the upper one with odd months only
-  module _ {sums : TableRates} (low : sums .lower ≡ lower) (high : (t .months ≡ 0 → ⊥) → sums .upper ≡ upper) where
-    pub refusal-is : {refusal : ℕ}
-        → refusal ≡ pick (nothingToPayOff status) 16 (pick (wrongIncrease increase) 17 (pick (eqb (sums .lower) 0 || missingUpper t (sums .upper)) 5 0))
-        → refusal ≡ contractRefusal t status ageNow increase
-    unfolding contractRefusal noLumpSumNow
-    refusal-is e = e ∙ rw (low, missing-same t (sums .upper) upper high)
+  -- the refusal as the code works it out
+  pub refusal-is : {sums : TableRates} {refusal : ℕ} → LookedUp t ageNow sums
+      → refusal ≡ pick (nothingToPayOff status) 16 (pick (wrongIncrease increase) 17 (pick (eqb (sums .lower) 0 || missingUpper t (sums .upper)) 5 0))
+      → refusal ≡ contractRefusal t status ageNow increase
+  unfolding contractRefusal noLumpSumNow
+  refusal-is {sums} found e = e ∙ rw (found .low, missing-same t (sums .upper) (upper t ageNow) (found .high))
 
-    pub price-is : pricedPayOff t credit (sums .lower) (sums .upper) increase ≡ pricedPayOff t credit lower upper increase
-    price-is = rw (low, price-upper (increasedBy increase (remainingOf t credit)) lower (sums .upper) upper (t .months) high)
+  module _ (credit : ℕ) where
+    -- the two outcomes
+    pub contract-refused : (contractRefusal t status ageNow increase ≡ 0 → ⊥)
+        → contractPayOff t status credit ageNow increase ≡ refusedPayOff (contractRefusal t status ageNow increase) 0
+    unfolding contractPayOff
+    contract-refused some = rw (ne-eqb _ _ some)
+
+    pub contract-priced : contractRefusal t status ageNow increase ≡ 0
+        → contractPayOff t status credit ageNow increase ≡ pricedPayOff t credit (lower t ageNow) (upper t ageNow) increase
+    unfolding contractPayOff
+    contract-priced none = rw (eq-eqb _ _ none)
+
+    pub contract-number : contractPayOff t status credit ageNow increase .refusal ≡ contractRefusal t status ageNow increase
+    unfolding contractPayOff
+    contract-number =
+        chosen-number (λ (n : PayOffNumbers). n .refusal) (contractRefusal t status ageNow increase)
+        (pricedPayOff t credit (lower t ageNow) (upper t ageNow) increase) (refusedPayOff (contractRefusal t status ageNow increase) 0) refl refl
+
+-- the price at the lump sums that were looked up
+pub price-is : (t : Terms) (credit ageNow increase : ℕ) {sums : TableRates} → LookedUp t ageNow sums
+    → pricedPayOff t credit (sums .lower) (sums .upper) increase ≡ pricedPayOff t credit (lower t ageNow) (upper t ageNow) increase
+price-is t credit ageNow increase {sums} found =
+    rw (found .low, price-upper (increasedBy increase (remainingOf t credit)) (lower t ageNow) (sums .upper) (upper t ageNow) (t .months) (found .high))

@@ -1,4 +1,4 @@
--- The roundings of a pay-off: neither makes less of a pension, and how large an increased pension and its cost can be.
+-- The roundings of a pay-off: how small and how large an increased pension and its cost can be.
 -- Assumes nothing.
 use mathlib.Core.Path.{_≡_, ap}
 use Prim.Native.Nat.{ℕ, zero, suc, _+_, _*_, _-_, _≤_, _<_, _^_}
@@ -34,11 +34,11 @@ unfolding increasedBy
 increased-none increase = omega (arith, at-most (0 * increase) 1000 0 (omega arith) (omega arith))
 
 -- the exact rate lies between bounds of both, where the upper one counts with odd months only
-pub twelfths-most : (m lower upper most : ℕ) → m ≤ 12 → lower ≤ most → upper ≤ most → rateTwelfths m lower upper ≤ most * 12
+twelfths-most : (m lower upper most : ℕ) → m ≤ 12 → lower ≤ most → upper ≤ most → rateTwelfths m lower upper ≤ most * 12
 unfolding rateTwelfths
 twelfths-most = weighted-most
 
-pub twelfths-least : (m lower upper least : ℕ) → m ≤ 12 → least ≤ lower → (0 < m → least ≤ upper) → least * 12 ≤ rateTwelfths m lower upper
+twelfths-least : (m lower upper least : ℕ) → m ≤ 12 → least ≤ lower → (0 < m → least ≤ upper) → least * 12 ≤ rateTwelfths m lower upper
 unfolding rateTwelfths
 twelfths-least zero lower upper least h p q = omega arith
 twelfths-least (suc m) lower upper least h p q = weighted-least (suc m) lower upper least h p (q (omega arith))

@@ -12,7 +12,7 @@ use Rattle.pay_off.proofs.Contract.{contract-priced, contract-number}
 
 -- what is priced: Settle accepts it, nothing refuses the contract, and these are its numbers
 pub record PricedIs (t : Terms) (ms : List ℕ) (ageNow increase : ℕ) : Type 0 where
-  pub settled : settleOf t ms .refusal ≡ 0
+  pub accepted : settleOf t ms .refusal ≡ 0
   pub none : contractRefusal t (settleOf t ms .status) ageNow increase ≡ 0
   pub numbers : payOffOf t ms ageNow increase ≡ pricedPayOff t (settleOf t ms .credit) (lumpSumNow t ageNow (t .years)) (lumpSumNow t ageNow (t .years + 1)) increase
 
@@ -34,9 +34,9 @@ module _ (t : Terms) (ms : List ℕ) (ageNow increase : ℕ) where
   pub decided-number : settled .refusal ≡ 0 → payOffOf t ms ageNow increase .refusal ≡ contractRefusal t (settled .status) ageNow increase
   decided-number z =
       ap (λ (n : PayOffNumbers). n .refusal) (contract-decides z)
-      ∙ contract-number t (settled .status) (settled .credit) ageNow increase
+      ∙ contract-number t (settled .status) ageNow increase (settled .credit)
 
-  pub settle-passed : payOffOf t ms ageNow increase .refusal ≡ 0 → settled .refusal ≡ 0
+  settle-passed : payOffOf t ms ageNow increase .refusal ≡ 0 → settled .refusal ≡ 0
   settle-passed z = go (ℕ-discrete (settled .refusal) 0)
     where
       go : Dec (settled .refusal ≡ 0) → settled .refusal ≡ 0
@@ -48,7 +48,7 @@ module _ (t : Terms) (ms : List ℕ) (ageNow increase : ℕ) where
       let passed = settle-passed z in
       let none = sym (decided-number passed) ∙ z in
       record {
-        settled = passed;
+        accepted = passed;
         none = none;
-        numbers = contract-decides passed ∙ contract-priced t (settled .status) (settled .credit) ageNow increase none;
+        numbers = contract-decides passed ∙ contract-priced t (settled .status) ageNow increase (settled .credit) none;
       }

@@ -1,14 +1,14 @@
--- What request 1 says of every pay-off: what is priced, and what is refused though Settle accepts it.
+-- What request 1 says of every pay-off: what is priced, and what refuses in which order.
 -- Assumes nothing.
 use mathlib.Core.Bool.{true, false}
 use mathlib.Core.List.{List}
-use mathlib.Core.Logic.{inl, inr, ⊎-elim}
+use mathlib.Core.Logic.{_⊎_, inl, inr, ⊎-elim}
 use mathlib.Core.Path.{_≡_, refl, sym, ap, _∙_}
 use Prim.Native.Nat.{ℕ, _+_, _*_, _≤_, _<_}
 use native.Mathlib.Omega.{arith}
-use lib.Dec.{eqb}
-use borrow.Author.Tests.{eq-eqb, eqb-true, eqb-false}
-use Rattle.common.proofs.Choice.{not-first}
+use lib.Dec.{ltb, eqb}
+use borrow.Author.Tests.{lt-ltb, le-ltb, eq-eqb, ne-eqb, eqb-true, eqb-false}
+use Rattle.common.proofs.Choice.{either}
 use Rattle.common.proofs.Tests.{by-test, or-false, or-true}
 use Rattle.rates.proofs.Laws.{lump-printed, lump-shown, lump-none, lump-above}
 use Rattle.terms.specs.declared.Terms.{Terms}
@@ -21,12 +21,12 @@ use Rattle.examination.proofs.Laws.{accepted}
 use Rattle.settlement.specs.Settle.{SettleNumbers, settleOf}
 use Rattle.settlement.proofs.Laws.{settle-settled, settle-refusal}
 use Rattle.settlement.proofs.Bounds.{settle-credit-most}
-use Rattle.pay_off.specs.PayOff.{PayOffNumbers, nothingToPayOff, wrongIncrease, lumpSumNow, noLumpSumNow, contractRefusal, payOffOf}
-use Rattle.pay_off.specs.Told.{PricedTold, LacksLumpSum, RefusedTold}
+use Rattle.pay_off.specs.PayOff.{PayOffNumbers, nothingToPayOff, wrongIncrease, lumpSumNow, noLumpSumNow, contractRefusal, contractPayOff, payOffOf}
+use Rattle.pay_off.specs.Told.{PricedTold, LacksLumpSum, Payable, Taken, RefusedTold}
 use Rattle.pay_off.proofs.Costs.{increased-least, increased-none, price-least, price-none}
 use Rattle.pay_off.proofs.Contract.{passes}
 use Rattle.pay_off.proofs.Complete.{complete-credit}
-use Rattle.pay_off.proofs.Laws.{decided-number, priced-is}
+use Rattle.pay_off.proofs.Laws.{settle-refuses, contract-decides, decided-number, priced-is}
 
 -- terms that Settle accepts
 pub settled-terms : (t : Terms) (ms : List ℕ) → settleOf t ms .refusal ≡ 0 → Accepted t 0
@@ -68,8 +68,8 @@ module _ (t : Terms) (ms : List ℕ) (ageNow increase : ℕ) where
   rises : answer .refusal ≡ 0 → (answer .remaining ≤ answer .increased) × (answer .increased ≤ answer .cost)
   rises z =
       let is = priced-is t ms ageNow increase z in
-      let pass = passes t (settled .status) (settled .credit) ageNow increase (is .none) in
-      let age = settled-terms t ms (is .settled) .pension-age in
+      let pass = passes t (settled .status) ageNow increase (is .none) in
+      let age = settled-terms t ms (is .accepted) .pension-age in
       rw (is .numbers) (
         increased-least increase _ (pass .increase-low),
         price-least _ _ _ (t .months) (omega (arith, age .months-high))
@@ -83,27 +83,37 @@ module _ (t : Terms) (ms : List ℕ) (ageNow increase : ℕ) where
         whole = whole;
         complete = λ z complete.
             let left : answer .remaining ≡ 0 =
-            omega (arith, whole z, complete-credit t ms (priced-is t ms ageNow increase z .settled) complete) in
+            omega (arith, whole z, complete-credit t ms (priced-is t ms ageNow increase z .accepted) complete) in
             (left, none-left z left);
         rises = rises;
         free = λ z free. omega (arith, rises z, free);
         nothing-left = λ z left. none-left z left .1;
       }
 
-  -- a lump sum has status 6
-  lump-sum : settled .refusal ≡ 0 → t .term ≡ 0 → answer .refusal ≡ 16
-  unfolding contractRefusal nothingToPayOff statusOf
-  lump-sum z lump =
-      let six : settled .status ≡ 6 =
-      ap (λ (n : SettleNumbers). n .status) (settle-settled t ms (sym (settle-refusal t ms) ∙ z)) ∙ rw lump in
-      decided-number t ms ageNow increase z ∙ rw six
+  -- the tests of the chain, from what is said in numbers
+  nothing-said : (s : ℕ) → ((s ≡ 0) ⊎ ((s ≡ 5) ⊎ (s ≡ 6))) → nothingToPayOff s ≡ true
+  unfolding nothingToPayOff
+  nothing-said s = ⊎-elim (λ e. rw e) (⊎-elim (λ e. rw e) (λ e. rw e))
+
+  payable-fits : (s : ℕ) → Payable s → nothingToPayOff s ≡ false
+  unfolding nothingToPayOff
+  payable-fits s p = rw (ne-eqb s 0 (λ e. omega arith), ne-eqb s 5 (λ e. omega arith), ne-eqb s 6 (λ e. omega arith))
+
+  increase-out : ((increase < 1000) ⊎ (9999 < increase)) → wrongIncrease increase ≡ true
+  unfolding wrongIncrease
+  increase-out = ⊎-elim (λ low. rw (lt-ltb increase 1000 low)) (λ high. rw (lt-ltb 9999 increase high) (or-true (ltb increase 1000)))
+
+  increase-taken : Taken increase → wrongIncrease increase ≡ false
+  unfolding wrongIncrease
+  increase-taken p = rw (le-ltb increase 1000 (p .0), le-ltb 9999 increase (p .1))
 
   -- a lump sum that is missing, in the words of the print rule
   no-lump-says : noLumpSumNow t ageNow ≡ true → LacksLumpSum t ageNow
   unfolding noLumpSumNow
   no-lump-says e =
       by-test (eqb (lumpSumNow t ageNow (t .years)) 0)
-      (λ lower. (t .years, (inl refl, λ there. omega (arith, eqb-true (lumpSumNow t ageNow (t .years)) 0 lower, lump-shown (t .option) (t .years) ageNow there))))
+      (λ lower.
+      (t .years, (inl refl, λ there. omega (arith, eqb-true (lumpSumNow t ageNow (t .years)) 0 lower, lump-shown (t .option) (t .years) ageNow there))))
       (λ lower.
       let m = upper-missing t (lumpSumNow t ageNow (t .years + 1)) (rw lower at e) in
       (t .years + 1, (inr (refl, m .0), λ there. omega (arith, m .1, lump-shown (t .option) (t .years + 1) ageNow there))))
@@ -117,19 +127,38 @@ module _ (t : Terms) (ms : List ℕ) (ageNow increase : ℕ) where
       (λ e. rw (missing-upper t _ (e .1) (rw (e .0) at none)) (or-true (eqb (lumpSumNow t ageNow (t .years)) 0)))
       (lacks .1 .0)
 
-  five : settled .refusal ≡ 0 → answer .refusal ≡ 5 → LacksLumpSum t ageNow
+  no-place : settled .refusal ≡ 0 → answer .place ≡ 0
+  unfolding contractPayOff
+  no-place z =
+      ap (λ (n : PayOffNumbers). n .place) (contract-decides t ms ageNow increase z)
+      ∙ either (λ (n : PayOffNumbers). n .place ≡ 0) (eqb (contractRefusal t (settled .status) ageNow increase) 0) refl refl
+
+  sixteen : settled .refusal ≡ 0 → ((settled .status ≡ 0) ⊎ ((settled .status ≡ 5) ⊎ (settled .status ≡ 6))) → answer .refusal ≡ 16
   unfolding contractRefusal
-  five z e =
-      let refused = sym (decided-number t ms ageNow increase z) ∙ e in
-      let status-fit = not-first (λ (n : ℕ). n ≡ 5) (nothingToPayOff (settled .status)) 16 _ (λ w. omega arith) refused in
-      let increase-fit = not-first (λ (n : ℕ). n ≡ 5) (wrongIncrease increase) 17 _ (λ w. omega arith) (status-fit .1) in
-      by-test (noLumpSumNow t ageNow) no-lump-says (λ there. absurd (omega (arith, rw there at (increase-fit .1))))
+  sixteen z s = decided-number t ms ageNow increase z ∙ rw (nothing-said (settled .status) s)
+
+  -- a lump sum has status 6
+  lump-status : settled .refusal ≡ 0 → t .term ≡ 0 → settled .status ≡ 6
+  unfolding statusOf
+  lump-status z lump =
+      ap (λ (n : SettleNumbers). n .status) (settle-settled t ms (sym (settle-refusal t ms) ∙ z)) ∙ rw lump
 
   pub refused-told : RefusedTold t ms ageNow increase answer
   unfolding contractRefusal
   refused-told =
       record {
-        lump-sum = lump-sum;
-        five = five;
-        just-five = λ z fit range lacks. decided-number t ms ageNow increase z ∙ rw (fit, range, says-no-lump lacks);
+        settle-first = λ some.
+            let whole = settle-refuses t ms ageNow increase some in
+            (ap (λ (n : PayOffNumbers). n .refusal) whole, ap (λ (n : PayOffNumbers). n .place) whole);
+        no-place = no-place;
+        sixteen = sixteen;
+        lump-sum = λ z lump. sixteen z (inr (inr (lump-status z lump)));
+        seventeen = λ z fit out.
+            decided-number t ms ageNow increase z ∙ rw (payable-fits (settled .status) fit, increase-out out);
+        five = λ z fit range lacks.
+            decided-number t ms ageNow increase z
+            ∙ rw (payable-fits (settled .status) fit, increase-taken range, says-no-lump lacks);
+        accepted = λ z fit range there.
+            by-test (noLumpSumNow t ageNow) (λ e. absurd (there (no-lump-says e)))
+            (λ e. decided-number t ms ageNow increase z ∙ rw (payable-fits (settled .status) fit, increase-taken range, e));
       }

@@ -1,16 +1,16 @@
--- What request 1 of document 02 says of every pay-off, beside its numbers.
+-- What request 1 of document 02 says of every pay-off, beside its numbers: what is priced, and what refuses in which order.
 -- Assumes nothing.
-use mathlib.Core.Bool.{false}
 use mathlib.Core.List.{List}
+use mathlib.Core.Logic.{_⊎_}
 use mathlib.Core.Path.{_≡_}
-use Prim.Native.Nat.{ℕ, _+_, _*_, _≤_}
+use Prim.Native.Nat.{ℕ, _+_, _*_, _≤_, _<_}
 use Rattle.rates.specs.Rates.{LumpPrinted}
 use Rattle.terms.specs.declared.Terms.{Terms}
 use Rattle.terms.specs.Printed.{Needed}
 use Rattle.settlement.specs.Settle.{settleOf}
-use Rattle.pay_off.specs.PayOff.{PayOffNumbers, nothingToPayOff, wrongIncrease}
+use Rattle.pay_off.specs.PayOff.{PayOffNumbers}
 
--- what is priced: n is the pay-off of t for the marks
+-- of a pay-off n of t for the marks, where it is priced
 pub record PricedTold (t : Terms) (marks : List ℕ) (n : PayOffNumbers) : Type 0 where
   -- remaining and credit are the amount: nothing was cut off at 0
   pub whole : n .refusal ≡ 0 → n .remaining + settleOf t marks .credit ≡ t .amount * 100
@@ -25,11 +25,28 @@ pub record PricedTold (t : Terms) (marks : List ℕ) (n : PayOffNumbers) : Type 
 abbrev pub LacksLumpSum : Terms → (ageNow : ℕ) → Type 0
 LacksLumpSum t ageNow = (p : ℕ) × (Needed t p × (LumpPrinted (t .option) p ageNow → ⊥))
 
--- what is refused though Settle accepts it
+-- a status at which there is something to pay off: paying, in a gap, complete or ceased
+abbrev pub Payable : (status : ℕ) → Type 0
+Payable status = (1 ≤ status) × (status ≤ 4)
+
+-- an increase that is taken
+abbrev pub Taken : (increase : ℕ) → Type 0
+Taken increase = (1000 ≤ increase) × (increase ≤ 9999)
+
+-- what is refused, and with which number and place
 pub record RefusedTold (t : Terms) (marks : List ℕ) (ageNow increase : ℕ) (n : PayOffNumbers) : Type 0 where
-  -- a lump sum, whatever the increase and the age now
+  -- what Settle refuses, as Settle does
+  pub settle-first : (settleOf t marks .refusal ≡ 0 → ⊥) → (n .refusal ≡ settleOf t marks .refusal) × (n .place ≡ settleOf t marks .place)
+  -- what Settle accepts has no place,
+  pub no-place : settleOf t marks .refusal ≡ 0 → n .place ≡ 0
+  -- is 16 at the statuses 0, 5 and 6,
+  pub sixteen : settleOf t marks .refusal ≡ 0
+      → ((settleOf t marks .status ≡ 0) ⊎ ((settleOf t marks .status ≡ 5) ⊎ (settleOf t marks .status ≡ 6))) → n .refusal ≡ 16
+  -- so a lump sum always is,
   pub lump-sum : settleOf t marks .refusal ≡ 0 → t .term ≡ 0 → n .refusal ≡ 16
-  -- 5 in the words of the print rule, a complete contract being no exception
-  pub five : settleOf t marks .refusal ≡ 0 → n .refusal ≡ 5 → LacksLumpSum t ageNow
-  pub just-five : settleOf t marks .refusal ≡ 0 → nothingToPayOff (settleOf t marks .status) ≡ false → wrongIncrease increase ≡ false
-      → LacksLumpSum t ageNow → n .refusal ≡ 5
+  -- is 17 at any other status where the increase is out of range,
+  pub seventeen : settleOf t marks .refusal ≡ 0 → Payable (settleOf t marks .status) → ((increase < 1000) ⊎ (9999 < increase)) → n .refusal ≡ 17
+  -- is 5 where it is in range and a lump sum is lacking,
+  pub five : settleOf t marks .refusal ≡ 0 → Payable (settleOf t marks .status) → Taken increase → LacksLumpSum t ageNow → n .refusal ≡ 5
+  -- and is priced where none is
+  pub accepted : settleOf t marks .refusal ≡ 0 → Payable (settleOf t marks .status) → Taken increase → (LacksLumpSum t ageNow → ⊥) → n .refusal ≡ 0

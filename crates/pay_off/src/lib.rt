@@ -82,10 +82,7 @@ fn no_lump_sum(t: Terms, sums: TableRates) -> bool
     if sums.lower == 0 {
         return true;
     }
-    if t.months == 0 {
-        return false;
-    }
-    sums.upper == 0
+    election::missing_upper(t, sums.upper)
 }
 
 // The first of 16, 17 and 5 that refuses a contract which Settle accepts, else 0.
@@ -123,8 +120,8 @@ fn priced(t: Terms, credit: PensionPence, sums: TableRates, increase: u32) -> Pa
 }
 
 // The remaining pension, the same increased by so many thousandths, and its cost; or the first refusal and its place. The age now is
-// not compared with the age at the election. Settle's refusals and credit come from the two functions that `settle` asks for them, which
-// costs its callers less than a second call of `settle` (docs/SPEED.md).
+// not compared with the age at the election. Settle's refusals and credit come from the two functions that `settle` asks for them: a
+// second place that calls `settle` would cost its host call more (docs/SPEED.md).
 pub fn pay_off(t: Terms, marks: &[u8], age_now: u32, increase: u32) -> PayOff
     ensures is { λ r. ⌜ numbersOf r ≡ payOffOf t (now (marks .entry)) «age_now» increase ⌝ }
     ensures priced { λ r. ⌜ PricedTold t (now (marks .entry)) (numbersOf r) ⌝ }

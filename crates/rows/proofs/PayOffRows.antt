@@ -20,8 +20,8 @@ use Rattle.settlement.specs.Settle.{creditAtStatus, refundAtStatus, settleOf}
 use Rattle.pay_off.specs.Price.{increasedBy, rateTwelfths, priceOf}
 use Rattle.pay_off.specs.PayOff.{nothingToPayOff, wrongIncrease, noLumpSumNow, contractRefusal, contractPayOff, payOffOf}
 use Rattle.rows.specs.Rows.{Row}
-use Rattle.rows.specs.PayOffRows.{stepRows, halfRows, contractRows, payOffRows}
+use Rattle.rows.specs.PayOffRows.{stepRows, halfRows, contractRows, refusedRows, payOffRows}
 
 pub all-pay-off-rows : map (λ (r : Row). r .found) payOffRows ≡ map (λ (r : Row). r .stated) payOffRows
-unfolding payOffRows stepRows halfRows contractRows payOffOf contractPayOff contractRefusal nothingToPayOff wrongIncrease noLumpSumNow increasedBy rateTwelfths priceOf lumpRateOf lumpColumn settleOf settleRefusal settlePlace creditAtStatus refundAtStatus creditOf creditIn creditOver earned runsIn runsFrom runFrom monthValue yearCredits yearCredit tabulate marksOf readOn stepBy nextRefusalOf countMark statusOf stoppedOf lastOr allPaid paidMonths paidThrough finalGap contributionOf contributionIn contributionAt tableRate rateFor rateOf cellOf tableOf combine blend nearest halfUp refusalOf termsRefusal priceRefusal wrongOption wrongPensionAge wrongTerm wrongPayer noRate noUpperRate wrongAmount aboveCap
+unfolding payOffRows stepRows halfRows contractRows refusedRows payOffOf contractPayOff contractRefusal nothingToPayOff wrongIncrease noLumpSumNow increasedBy rateTwelfths priceOf lumpRateOf lumpColumn settleOf settleRefusal settlePlace creditAtStatus refundAtStatus creditOf creditIn creditOver earned runsIn runsFrom runFrom monthValue yearCredits yearCredit tabulate marksOf readOn stepBy nextRefusalOf countMark statusOf stoppedOf lastOr allPaid paidMonths paidThrough finalGap contributionOf contributionIn contributionAt tableRate rateFor rateOf cellOf tableOf combine blend nearest halfUp refusalOf termsRefusal priceRefusal wrongOption wrongPensionAge wrongTerm wrongPayer noRate noUpperRate wrongAmount aboveCap
 all-pay-off-rows = refl

@@ -18,8 +18,8 @@ stepRows =
     ∷ (only (priceOf 120956 385250 0 0) is only 1863932)
     ∷ []
 
--- not in the paper: £5.00 at 1.001 is half a penny above £5.00, and a penny at £625.00 costs two and a half, which the even penny would
--- leave; £2,000.00 at the rate a month on from £250.01 towards £250.00, which is a penny dearer where the rate is rounded first
+-- not in the paper: £5.00 at 1.001 is half a penny above £5.00, and a penny at £625.00 costs two and a half pence, where the even penny
+-- would be £5.00 and 2; £2,000.00 at the rate a month on from £250.01 towards £250.00 is a penny dearer where that rate is rounded first
 unfoldable pub halfRows : List Row
 halfRows =
     (only (increasedBy 1001 500) is only 501)
@@ -33,17 +33,32 @@ paidOff t marks ageNow increase =
     let n = payOffOf t marks ageNow increase in
     n .refusal ∷ n .place ∷ n .remaining ∷ n .increased ∷ n .cost ∷ []
 
--- £1,000 over 5 years with 18 paid months, and with the gap; refunded at an increase and an age that would be refused too, then at the
--- increase alone, then at the age
+-- a personal pension at 66 years 5 months: document 001's contract at this scheme's rates
+abbrev pub fourYears : Terms
+fourYears = record { age = 60; years = 66; months = 5; option = 1; payer = 1; term = 4; amount = 1500 }
+
+-- £1,000 over 5 years: 18 paid months, the gap, ceased, complete; then the other contract
 unfoldable pub contractRows : List Row
 contractRows =
     (paidOff fiveYears (paidFor 18) 51 1011 is (0 ∷ 0 ∷ 67201 ∷ 67940 ∷ 812562 ∷ []))
     ∷ (paidOff fiveYears (paidFor 18 ++ (missedFor 4 ++ paidFor 6)) 52 1011 is (0 ∷ 0 ∷ 57039 ∷ 57666 ∷ 705832 ∷ []))
+    ∷ (paidOff fiveYears (paidFor 12 ++ (2 ∷ [])) 51 1011 is (0 ∷ 0 ∷ 77741 ∷ 78596 ∷ 940008 ∷ []))
+    ∷ (paidOff fiveYears (paidFor 60) 55 1011 is (0 ∷ 0 ∷ 0 ∷ 0 ∷ 0 ∷ []))
+    ∷ (paidOff fourYears (paidFor 9) 61 1011 is (0 ∷ 0 ∷ 119082 ∷ 120392 ∷ 1829958 ∷ []))
+    ∷ []
+
+-- refusals: a mark that Settle refuses, no marks, refunded, each at an increase and an age that would be refused too; then at the
+-- increases next to those taken, and at the age
+unfoldable pub refusedRows : List Row
+refusedRows =
+    (paidOff fiveYears (paidFor 3 ++ (3 ∷ [])) 65 999 is (11 ∷ 3 ∷ 0 ∷ 0 ∷ 0 ∷ []))
+    ∷ (paidOff fiveYears [] 65 999 is (16 ∷ 0 ∷ 0 ∷ 0 ∷ 0 ∷ []))
     ∷ (paidOff fiveYears (paidFor 11 ++ (2 ∷ [])) 65 999 is (16 ∷ 0 ∷ 0 ∷ 0 ∷ 0 ∷ []))
     ∷ (paidOff fiveYears (paidFor 18) 65 999 is (17 ∷ 0 ∷ 0 ∷ 0 ∷ 0 ∷ []))
-    ∷ (paidOff fiveYears (paidFor 18) 65 1011 is (5 ∷ 0 ∷ 0 ∷ 0 ∷ 0 ∷ []))
+    ∷ (paidOff fiveYears (paidFor 60) 65 10000 is (17 ∷ 0 ∷ 0 ∷ 0 ∷ 0 ∷ []))
+    ∷ (paidOff fiveYears (paidFor 60) 65 9999 is (5 ∷ 0 ∷ 0 ∷ 0 ∷ 0 ∷ []))
     ∷ []
 
 -- all of them
 unfoldable pub payOffRows : List Row
-payOffRows = stepRows ++ (halfRows ++ contractRows)
+payOffRows = stepRows ++ (halfRows ++ (contractRows ++ refusedRows))

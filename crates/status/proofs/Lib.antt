@@ -1,1 +1,2 @@
 pub mod StatusOf
+pub mod Complete

@@ -42,16 +42,16 @@ status-lawful term ms h =
 
 module _ (term : ℕ) (ms : List ℕ) where
   -- the tests of `statusOf` after the first, by the status that each gives
-  abbrev test0 : Bool
+  abbrev pub test0 : Bool
   test0 = eqb (length ms) 0
 
-  abbrev test1 : Bool
+  abbrev pub test1 : Bool
   test1 = ltb (length ms) (12 * term) && eqb (lastOr 0 ms) 1
 
-  abbrev test2 : Bool
+  abbrev pub test2 : Bool
   test2 = ltb (length ms) (12 * term) && (leb 1 (finalGap ms) && leb (finalGap ms) 11)
 
-  abbrev test3 : Bool
+  abbrev pub test3 : Bool
   test3 = eqb (length ms) (12 * term) && allPaid ms
 
   abbrev test4 : Bool

@@ -22,12 +22,25 @@ use Rattle.examination.proofs.Examination.{examined-none, examined-status, exam
 use Rattle.settlement.specs.Settle.{creditAtStatus}
 use Rattle.pay_off.specs.PayOff.{PayOffNumbers, lumpSumNow, contractRefusal, refusedPayOff, pricedPayOff, contractPayOff, payOffOf}
 use Rattle.pay_off.specs.Told.{PricedTold, RefusedTold}
-use Rattle.pay_off.proofs.Contract.{contract-refused, contract-priced, passes, refusal-is, price-is}
+use Rattle.pay_off.proofs.Contract.{LookedUp, contract-refused, contract-priced, passes, refusal-is, price-is}
 use Rattle.pay_off.proofs.Laws.{settle-refuses, contract-decides}
 use Rattle.pay_off.proofs.Settled.{same-refusal, same-place, same-status, same-credit}
 use Rattle.pay_off.proofs.Told.{priced-told, refused-told}
 use Rattle.pay_off.proofs.pay_off.Statement.{statement}
 use Rattle.pay_off.proofs.pay_off.Tie as tie
+
+-- what the credit and the price require
+module _ (t : Terms) (ms : List ℕ) {e : Examined} (is : e ≡ examinedOf t ms) (none : e .refusal ≡ 0) where
+  monthly : ((e .status ≡ 6 → ⊥) → Monthly t (e .rates)) × (length ms ≤ 240)
+  monthly =
+      let passed = examined-none t ms is none in
+      (λ other. examined-monthly t ms is passed (not-lump (t .term) ms (rw (examined-status t ms is passed) at other)), few t ms passed)
+
+  accepted-terms : Accepted t 0
+  accepted-terms = accepted t ms (examined-none t ms is none)
+
+refusal-said : (n : ℕ) → (n ≡ 0 → ⊥) → true ≡ ltb 0 n
+refusal-said n some = sym (lt-ltb 0 n (omega (arith, some)))
 
 module _ (t : Terms) (ms : List ℕ) (ageNow increase : ℕ) where
   abbrev answer : PayOffNumbers
@@ -38,11 +51,16 @@ module _ (t : Terms) (ms : List ℕ) (ageNow increase : ℕ) where
   Promised n b = (n ≡ answer) × (PricedTold t ms n × (RefusedTold t ms ageNow increase n × (b ≡ ltb 0 (answer .refusal))))
 
   near : {n : PayOffNumbers} {b : Bool} → n ≡ answer → b ≡ ltb 0 (n .refusal) → Promised n b
-  near is says =
-      (is, (subst (PricedTold t ms) (sym is) (priced-told t ms ageNow increase), (subst (RefusedTold t ms ageNow increase) (sym is) (refused-told t ms ageNow increase), says ∙ ap (λ (n : PayOffNumbers). ltb 0 (n .refusal)) is)))
-
-  refusal-said : (n : ℕ) → (n ≡ 0 → ⊥) → true ≡ ltb 0 n
-  refusal-said n some = sym (lt-ltb 0 n (omega (arith, some)))
+  near is says = (
+    is,
+    (
+      subst (PricedTold t ms) (sym is) (priced-told t ms ageNow increase),
+      (
+        subst (RefusedTold t ms ageNow increase) (sym is) (refused-told t ms ageNow increase),
+        says ∙ ap (λ (n : PayOffNumbers). ltb 0 (n .refusal)) is,
+      ),
+    ),
+  )
 
   module _ {e : Examined} (is : e ≡ examinedOf t ms) where
     -- refused as Settle refuses
@@ -53,37 +71,34 @@ module _ (t : Terms) (ms : List ℕ) (ageNow increase : ℕ) where
         near (rw (number, same-place t ms is some) (sym whole)) (refusal-said (e .refusal) some)
 
     module _ (none : e .refusal ≡ 0) where
-      -- what the credit and the price require
-      monthly : ((e .status ≡ 6 → ⊥) → Monthly t (e .rates)) × (length ms ≤ 240)
-      monthly =
-          let passed = examined-none t ms is none in
-          (λ other. examined-monthly t ms is passed (not-lump (t .term) ms (rw (examined-status t ms is passed) at other)), few t ms passed)
+      abbrev credit : ℕ
+      credit = creditAtStatus t ms (e .status)
 
-      accepted-terms : Accepted t 0
-      accepted-terms = accepted t ms (examined-none t ms is none)
-
-      decides : answer ≡ contractPayOff t (e .status) (creditAtStatus t ms (e .status)) ageNow increase
+      decides : answer ≡ contractPayOff t (e .status) credit ageNow increase
       decides =
           contract-decides t ms ageNow increase (sym (same-refusal t ms is) ∙ none)
           ∙ rw (same-credit t ms is none, same-status t ms is none)
 
       -- refused by the contract
       second : {n : ℕ} → n ≡ contractRefusal t (e .status) ageNow increase → (n ≡ 0 → ⊥) → Promised (refusedPayOff n 0) true
-      second {n} e-is some =
-          let refused = contract-refused t (e .status) (creditAtStatus t ms (e .status)) ageNow increase (λ z. some (e-is ∙ z)) in
-          near (ap (λ (k : ℕ). refusedPayOff k 0) e-is ∙ sym (decides ∙ refused)) (refusal-said n some)
+      second {n} number some =
+          let refused = contract-refused t (e .status) ageNow increase credit (λ z. some (number ∙ z)) in
+          near (ap (λ (k : ℕ). refusedPayOff k 0) number ∙ sym (decides ∙ refused)) (refusal-said n some)
 
       -- priced
       third : {n : PayOffNumbers} {b : Bool} {held : PensionPence} {sums : TableRates} → contractRefusal t (e .status) ageNow increase ≡ 0
-          → sums .lower ≡ lumpSumNow t ageNow (t .years) → ((t .months ≡ 0 → ⊥) → sums .upper ≡ lumpSumNow t ageNow (t .years + 1))
-          → held ≡ pension (creditAtStatus t ms (e .status))
+          → LookedUp t ageNow sums → held ≡ pension credit
           → (n ≡ pricedPayOff t (held .0) (sums .lower) (sums .upper) increase) × (b ≡ false) → Promised n b
-      third {n} {b} {held} {sums} z low high h told =
-          let price : n ≡ pricedPayOff t (creditAtStatus t ms (e .status)) (sums .lower) (sums .upper) increase = told .0 ∙ rw h in
+      third {n} {b} {held} {sums} z found h told =
+          let price : n ≡ pricedPayOff t credit (sums .lower) (sums .upper) increase = told .0 ∙ rw h in
           let is-answer : n ≡ answer =
-          price ∙ price-is t (e .status) (creditAtStatus t ms (e .status)) ageNow increase low high
-          ∙ sym (decides ∙ contract-priced t (e .status) (creditAtStatus t ms (e .status)) ageNow increase z) in
+          price ∙ price-is t credit ageNow increase found ∙ sym (decides ∙ contract-priced t (e .status) ageNow increase credit z) in
           near is-answer (told .1 ∙ sym (ap (λ (m : PayOffNumbers). ltb 0 (m .refusal)) price))
+
+-- what the lookup promises
+looked-up : {t : Terms} {ageNow : ℕ} {sums : TableRates}
+    → (sums .lower ≡ lumpSumNow t ageNow (t .years)) × ((t .months ≡ 0 → ⊥) → sums .upper ≡ lumpSumNow t ageNow (t .years + 1)) → LookedUp t ageNow sums
+looked-up told = record { low = told .0; high = told .1 }
 
 examine-requires : tie.Need-examine-requires
 examine-requires c κs = search needs
@@ -100,31 +115,29 @@ contract-refusal-requires c κs = search needs
 returns-2 : tie.Need-returns-2
 returns-2 c =
     let b = c .before .before .before in
-    let sums = c .before .before .lump-sums-now .ensures in
     second _ _ _ _ (b .before .before .examine .ensures) (b .if1 .left)
-    (refusal-is _ _ 0 _ _ (sums .0) (sums .1) (c .before .contract-refusal .ensures)) (c .if2 .taken)
+    (refusal-is _ _ _ _ (looked-up (c .before .before .lump-sums-now .ensures)) (c .before .contract-refusal .ensures)) (c .if2 .taken)
 
 credit-at-status-requires : tie.Need-credit-at-status-requires
 credit-at-status-requires c κs =
     let b = c .before .before .before .before in
-    monthly _ _ 0 0 (b .before .before .examine .ensures) (b .if1 .left)
+    monthly _ _ (b .before .before .examine .ensures) (b .if1 .left)
 
 priced-requires : tie.Need-priced-requires
 priced-requires c κs =
     let decided = c .before .before .before in
     let b = decided .before .before in
-    let sums = decided .before .lump-sums-now .ensures in
     let t = b .before .before .before .before .args .t in
-    let told = refusal-is t _ 0 _ _ (sums .0) (sums .1) (decided .contract-refusal .ensures) in
-    (accepted-terms _ _ 0 0 (b .before .before .examine .ensures) (b .if1 .left), passes t _ 0 _ _ (sym told ∙ c .before .before .if2 .left) .increase-high)
+    let told = refusal-is t _ _ _ (looked-up (decided .before .lump-sums-now .ensures)) (decided .contract-refusal .ensures) in
+    (accepted-terms _ _ (b .before .before .examine .ensures) (b .if1 .left), passes t _ _ _ (sym told ∙ c .before .before .if2 .left) .increase-high)
 
 returns-3 : tie.Need-returns-3
 returns-3 c =
     let decided = c .before .before .before .before in
     let b = decided .before .before in
-    let sums = decided .before .lump-sums-now .ensures in
-    let told = refusal-is _ _ 0 _ _ (sums .0) (sums .1) (decided .contract-refusal .ensures) in
-    third _ _ _ _ (b .before .before .examine .ensures) (b .if1 .left) (sym told ∙ c .before .before .before .if2 .left) (sums .0) (sums .1)
+    let found = looked-up (decided .before .lump-sums-now .ensures) in
+    let told = refusal-is _ _ _ _ found (decided .contract-refusal .ensures) in
+    third _ _ _ _ (b .before .before .examine .ensures) (b .if1 .left) (sym told ∙ c .before .before .before .if2 .left) found
     (c .before .credit-at-status .ensures) (c .priced .ensures)
 
 pub pay-off-spec : {M : Type 1} → statement M

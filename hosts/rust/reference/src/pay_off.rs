@@ -1,6 +1,7 @@
 //! Paying off the rest of a contract by a lump sum.
 
 use crate::bytes_of;
+use crate::rates::lump_sum_rate;
 use crate::rounding::half_up;
 use crate::settle::settle;
 use crate::terms::{Terms, STEP};
@@ -43,17 +44,6 @@ pub fn cost(increased: u64, lower: u32, upper: u32, months: u32) -> u64 {
     half_up(increased * twelfths_of_rate, 12 * 100 * u64::from(STEP))
 }
 
-/// The lump-sum rates at an age for the pension age, lower and upper; the same twice where it has no odd months. `None` where a
-/// needed one is not printed.
-fn lump_sum_rates(terms: &Terms, age_now: u32) -> Option<(u32, u32)> {
-    let lump_sum = Terms { age: age_now, term: 0, ..*terms };
-    let lower = lump_sum.rate(terms.pension_age_years)?;
-    if terms.pension_age_months == 0 {
-        return Some((lower, lower));
-    }
-    Some((lower, lump_sum.rate(terms.pension_age_years + 1)?))
-}
-
 /// Prices what is missing from a contract, at the member's age now and with an increase in thousandths.
 pub fn pay_off(terms: &Terms, marks: &[u8], age_now: u32, increase: u32) -> PayOff {
     let settled = settle(terms, marks);
@@ -66,11 +56,12 @@ pub fn pay_off(terms: &Terms, marks: &[u8], age_now: u32, increase: u32) -> PayO
     if !INCREASES.contains(&increase) {
         return PayOff::refused(17, 0);
     }
-    let Some((lower, upper)) = lump_sum_rates(terms, age_now) else {
+    // Table S is the same for every pension age, so the lower and the upper rate are one.
+    let Some(rate) = lump_sum_rate(terms.option, age_now) else {
         return PayOff::refused(5, 0);
     };
     let remaining = terms.amount_pence() - settled.credit;
     let increased = increased(remaining, increase);
-    let cost = cost(increased, lower, upper, terms.pension_age_months);
+    let cost = cost(increased, rate, rate, terms.pension_age_months);
     PayOff { remaining, increased, cost, ..PayOff::default() }
 }

@@ -37,8 +37,7 @@ impl Terms {
         u64::from(self.amount) * 100
     }
 
-    /// The rate of one pension age, in pence per £250, if one is printed.
-    pub(crate) fn rate(&self, pension_age: u32) -> Option<u32> {
+    fn rate(&self, pension_age: u32) -> Option<u32> {
         match self.term {
             0 => rates::lump_sum_rate(self.option, self.age),
             term => rates::monthly_rate(self.option, pension_age, self.age, term),

@@ -225,7 +225,7 @@ fn stored_settlements() {
 
 #[test]
 fn stored_pay_offs() {
-    compare("pay-off", 33, |asked: [u64; 17]| {
+    compare("pay-off", 34, |asked: [u64; 17]| {
         let [age_now, increase] = [asked[15], asked[16]].map(narrow);
         let PayOff { refusal, place, remaining, increased, cost } = pay_off(&terms(&asked), &marks(&asked), age_now, increase);
         format!("refusal {refusal} place {place} remaining {remaining} increased {increased} cost {cost}")
