@@ -97,25 +97,19 @@ mod linked {
     }
 }
 
+/// A linked call with the terms in their order, then what else it takes.
+macro_rules! with_terms {
+    ($call:ident, $terms:ident, $($further:expr),+) => {{
+        let Numbers { age, pension_age_years, pension_age_months, option, payer, term, amount } = *$terms;
+        linked::$call(age, pension_age_years, pension_age_months, option, payer, term, amount, $($further),+)
+    }};
+}
+
 /// Quotes into the first [`QUOTE_BYTES`] of `out`; the rest stays. The value is the refusal, 0 for none. A shorter `out` keeps
 /// its bytes, and the value is [`SHORT_BUFFER`].
 pub fn quote(terms: &Numbers, existing_pence: u64, last_number: u32, out: &mut [u8]) -> u32 {
     // SAFETY: the call asks nothing of its numbers; `out` is lent for its length and for the call.
-    unsafe {
-        linked::ap_quote(
-            terms.age,
-            terms.pension_age_years,
-            terms.pension_age_months,
-            terms.option,
-            terms.payer,
-            terms.term,
-            terms.amount,
-            existing_pence,
-            last_number,
-            out.as_mut_ptr(),
-            out.len(),
-        )
-    }
+    unsafe { with_terms!(ap_quote, terms, existing_pence, last_number, out.as_mut_ptr(), out.len()) }
 }
 
 /// Settles into the first [`SETTLE_BYTES`] of `out`; the rest stays. The value is the refusal, 0 for none. A shorter `out` keeps
@@ -123,44 +117,14 @@ pub fn quote(terms: &Numbers, existing_pence: u64, last_number: u32, out: &mut [
 pub fn settle(terms: &Numbers, marks: &[u8], out: &mut [u8]) -> u32 {
     // SAFETY: the call asks nothing of its numbers; `marks` and `out` are lent for their lengths and for the call, and a
     // mutable slice overlaps no other.
-    unsafe {
-        linked::ap_settle(
-            terms.age,
-            terms.pension_age_years,
-            terms.pension_age_months,
-            terms.option,
-            terms.payer,
-            terms.term,
-            terms.amount,
-            marks.as_ptr(),
-            marks.len(),
-            out.as_mut_ptr(),
-            out.len(),
-        )
-    }
+    unsafe { with_terms!(ap_settle, terms, marks.as_ptr(), marks.len(), out.as_mut_ptr(), out.len()) }
 }
 
 /// Pays off into the first [`PAY_OFF_BYTES`] of `out`; the rest stays. The value is the refusal, 0 for none. A shorter `out`
 /// keeps its bytes, and the value is [`SHORT_BUFFER`].
 pub fn pay_off(terms: &Numbers, marks: &[u8], age_now: u32, increase: u32, out: &mut [u8]) -> u32 {
     // SAFETY: as for `settle`.
-    unsafe {
-        linked::ap_pay_off(
-            terms.age,
-            terms.pension_age_years,
-            terms.pension_age_months,
-            terms.option,
-            terms.payer,
-            terms.term,
-            terms.amount,
-            marks.as_ptr(),
-            marks.len(),
-            age_now,
-            increase,
-            out.as_mut_ptr(),
-            out.len(),
-        )
-    }
+    unsafe { with_terms!(ap_pay_off, terms, marks.as_ptr(), marks.len(), age_now, increase, out.as_mut_ptr(), out.len()) }
 }
 
 /// The number at one of the offsets of a result.
