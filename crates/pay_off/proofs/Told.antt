@@ -1,4 +1,4 @@
--- What request 1 says of every pay-off: what is priced, and what refuses in which order.
+-- What holds of every pay-off: what is priced, and what refuses in which order.
 -- Assumes nothing.
 use mathlib.Core.Bool.{true, false}
 use mathlib.Core.List.{List}

@@ -1,4 +1,4 @@
--- What request 1 of document 02 says of every pay-off, beside its numbers: what is priced, and what refuses in which order.
+-- What holds of every pay-off of request 1 of document 02, beside its numbers: what is priced, and what refuses in which order.
 -- Assumes nothing.
 use mathlib.Core.List.{List}
 use mathlib.Core.Logic.{_⊎_}
@@ -16,7 +16,7 @@ pub record PricedTold (t : Terms) (marks : List ℕ) (n : PayOffNumbers) : Type 
   pub whole : n .refusal ≡ 0 → n .remaining + settleOf t marks .credit ≡ t .amount * 100
   -- a complete contract has nothing left, and costs nothing
   pub complete : n .refusal ≡ 0 → settleOf t marks .status ≡ 3 → (n .remaining ≡ 0) × ((n .increased ≡ 0) × (n .cost ≡ 0))
-  -- what remains never costs less than itself, so the cost is 0 just where nothing remains
+  -- what remains never costs less than itself, so the cost is 0 only where nothing remains, and there it is
   pub rises : n .refusal ≡ 0 → (n .remaining ≤ n .increased) × (n .increased ≤ n .cost)
   pub free : n .refusal ≡ 0 → n .cost ≡ 0 → n .remaining ≡ 0
   pub nothing-left : n .refusal ≡ 0 → n .remaining ≡ 0 → n .cost ≡ 0
@@ -25,7 +25,7 @@ pub record PricedTold (t : Terms) (marks : List ℕ) (n : PayOffNumbers) : Type 
 abbrev pub LacksLumpSum : Terms → (ageNow : ℕ) → Type 0
 LacksLumpSum t ageNow = (p : ℕ) × (Needed t p × (LumpPrinted (t .option) p ageNow → ⊥))
 
--- a status at which there is something to pay off: paying, in a gap, complete or ceased
+-- a status that can be paid off: paying, in a gap, complete or ceased
 abbrev pub Payable : (status : ℕ) → Type 0
 Payable status = (1 ≤ status) × (status ≤ 4)
 
