@@ -3,12 +3,12 @@
 -- Assumes nothing.
 use Rattle.rounding.specs.Nearest.{nearest}
 use Rattle.rounding.specs.Rounding.{WithinHalf, Monotone}
-use Rattle.rounding.proofs.HalfUp.{half-up-within-half, half-up-monotone}
+use Rattle.rounding.proofs.HalfEven.{half-even-within-half, half-even-monotone}
 
 pub nearest-within-half : WithinHalf nearest
 unfolding nearest
-nearest-within-half = half-up-within-half
+nearest-within-half = half-even-within-half
 
 pub nearest-monotone : Monotone nearest
 unfolding nearest
-nearest-monotone = half-up-monotone
+nearest-monotone = half-even-monotone

@@ -1,8 +1,10 @@
--- Document 01, "From rate to contribution and credit": rounding to the nearest, and two figures blended by twelfths.
+-- Document 01, "From rate to contribution and credit", amended by request 2 of document 02: rounding to the nearest, and two figures
+-- blended by twelfths.
 -- Assumes nothing.
 use Prim.Native.Nat.{ℕ, _+_, _*_, _-_, _/_}
 use lib.Dec.{eqb}
 use Rattle.common.specs.Choice.{pick}
+use Rattle.rounding.specs.HalfEven.{halfEven}
 
 -- n ÷ d to the nearest whole number, a half going up: the whole part of n ÷ d + 1/2
 unfoldable pub halfUp : ℕ → ℕ → ℕ
@@ -10,7 +12,7 @@ halfUp n d = (2 * n + d) / (2 * d)
 
 -- the rule that contributions, whole-year credits, month values and the combining of two tables go by
 unfoldable pub nearest : ℕ → ℕ → ℕ
-nearest = halfUp
+nearest = halfEven
 
 -- ((12 − m) × lo + m × hi) ÷ 12, by a rounding
 abbrev pub blendBy : (ℕ → ℕ → ℕ) → ℕ → ℕ → ℕ → ℕ

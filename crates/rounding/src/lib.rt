@@ -1,6 +1,7 @@
 // Rounding to the nearest whole number, and the blend of two figures by twelfths.
 // Callers go by the laws of proofs/InForce and proofs/Laws, so that another rounding can stand behind the name `nearest`.
 ghost use mathlib.Core.Path.{_≡_};
+ghost use Rattle.rounding.specs.HalfEven.{halfEven};
 ghost use Rattle.rounding.specs.Nearest.{halfUp, nearest, blend};
 
 // n ÷ d to the nearest whole number, a half going up; 0 where d is 0.
@@ -18,11 +19,33 @@ pub fn half_up(n: u64, d: u64) -> u64
     whole + 1
 }
 
+// n ÷ d to the nearest whole number, a half going to the even one; 0 where d is 0.
+pub fn half_even(n: u64, d: u64) -> u64
+    ensures { λ r. ⌜ r ≡ halfEven n d ⌝ }
+{
+    if d == 0 {
+        return 0;
+    }
+    let low = n / d;
+    let rest = n % d;
+    let missing = d - rest;
+    if rest < missing {
+        return low;
+    }
+    if missing < rest {
+        return low + 1;
+    }
+    if low % 2 == 0 {
+        return low;
+    }
+    low + 1
+}
+
 // n ÷ d by the rule that contributions, whole-year credits, month values and the combining of two tables go by.
 pub fn nearest(n: u64, d: u64) -> u64
     ensures { λ r. ⌜ r ≡ nearest n d ⌝ }
 {
-    half_up(n, d)
+    half_even(n, d)
 }
 
 // ((12 − m) × lo + m × hi) ÷ 12 to the nearest; 12 − m is 0 where m is more than 12.

@@ -1,11 +1,12 @@
 -- `rounding::half_up` meets its contract: the whole part, and one more where the rest is at least half of the divisor.
 -- Assumes nothing.
 use mathlib.Core.Path.{_≡_, sym}
-use Prim.Native.Nat.{ℕ, _+_, _*_, _-_, _%_, _≤_, _<_, _^_}
-use native.Mathlib.Nat.{div-zero, div-add-mod', mod-lt, div-eq-of-lt-le, mul-le-mul-left}
+use Prim.Native.Nat.{ℕ, _+_, _*_, _-_, _≤_, _<_, _^_}
+use native.Mathlib.Nat.{div-zero, div-add-mod', div-eq-of-lt-le}
 use native.Mathlib.Omega.{arith}
 use borrow.Author.Needs.{needs}
 use Rattle.rounding.specs.Nearest.{halfUp}
+use Rattle.rounding.proofs.Division.{rest-low, room}
 use Rattle.rounding.proofs.half_up.Statement.{statement}
 use Rattle.rounding.proofs.half_up.Tie as tie
 
@@ -21,15 +22,6 @@ down n d q r e h = sym (div-eq-of-lt-le (2 * d) {m = 2 * n + d} (omega arith) (o
 up : (n d q r : ℕ) → q * d + r ≡ n → r < d → d - r ≤ r → q + 1 ≡ halfUp n d
 unfolding halfUp
 up n d q r e l h = sym (div-eq-of-lt-le (2 * d) {m = 2 * n + d} (omega arith) (omega arith))
-
--- where the quotient goes up the divisor is above 1, so there is room
-room : (n d q r k : ℕ) → q * d + r ≡ n → r < d → d - r ≤ r → n < 2 * k → 1 < k → q + 1 < 2 * k
-room n d q r k e l h small one =
-    let two : 2 ≤ d = omega arith in
-    omega (arith, mul-le-mul-left q two)
-
-rest-low : (n d : ℕ) → (d ≡ 0 → ⊥) → n % d < d
-rest-low n d h = mod-lt n (omega arith)
 
 returns : tie.Need-returns
 returns c = none _ _ (c .if1 .taken)
