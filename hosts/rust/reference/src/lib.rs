@@ -5,6 +5,7 @@
 
 pub mod case_file;
 pub mod credit;
+pub mod halves;
 pub mod marks;
 pub mod pay_off;
 pub mod quote;

@@ -1,13 +1,21 @@
 //! Rounding to whole pence.
 
-/// `numerator ÷ denominator` to the nearest whole number, a half going up.
+/// `numerator ÷ denominator` to the nearest whole number, a half going up: both roundings of a pay-off.
 pub fn half_up(numerator: u64, denominator: u64) -> u64 {
     (2 * numerator + denominator) / (2 * denominator)
 }
 
-/// The rounding of contributions, whole-year credits, month values and figures between two tables.
+/// `numerator ÷ denominator` to the nearest whole number, or to the even one of two that are equally near: the rounding of
+/// contributions, whole-year credits, month values and figures between two tables. 0 where the denominator is 0.
 pub fn nearest(numerator: u64, denominator: u64) -> u64 {
-    half_up(numerator, denominator)
+    if denominator == 0 {
+        return 0;
+    }
+    let (below, past) = (numerator / denominator, numerator % denominator);
+    let short_of_next = denominator - past;
+    // At an exact half these two are equal, and the 1 of an odd number makes it give way to the next.
+    let odd = below % 2;
+    below + u64::from(past + odd > short_of_next)
 }
 
 /// The figure that lies `twelfths` twelfths of the way from `from` to `to`.

@@ -50,14 +50,14 @@ fn five_years_by_d65() {
 
 #[test]
 fn eighteen_paid() {
-    assert_eq!(five_years(&[(18, 1)]).credit, 327_99);
+    assert_eq!(five_years(&[(18, 1)]).credit, 327_98);
 }
 
 #[test]
 fn a_gap_of_four() {
     let credits = row(&FIVE_YEARS, 65);
-    assert_eq!([18, 22, 28].map(|month| month_value(&credits, month)), [327_99, 398_25, 499_87]);
-    assert_eq!(five_years(&[(18, 1), (4, 0), (6, 1)]).credit, 429_61);
+    assert_eq!([18, 22, 28].map(|month| month_value(&credits, month)), [327_98, 398_25, 499_87]);
+    assert_eq!(five_years(&[(18, 1), (4, 0), (6, 1)]).credit, 429_60);
 }
 
 #[test]
@@ -108,13 +108,15 @@ fn not_paid_off(refusal: u32) -> PayOff {
 #[test]
 fn five_years_paid_off() {
     let given = |remaining, increased, cost| PayOff { remaining, increased, cost, ..PayOff::default() };
-    assert_eq!(rest_of_five_years(&[(18, 1)], 51), given(672_01, 679_40, 8_125_62));
-    assert_eq!(rest_of_five_years(&[(18, 1), (4, 0), (6, 1)], 52), given(570_39, 576_66, 7_058_32));
+    assert_eq!(rest_of_five_years(&[(18, 1)], 51), given(672_02, 679_41, 8_125_74));
+    assert_eq!(rest_of_five_years(&[(18, 1), (4, 0), (6, 1)], 52), given(570_40, 576_67, 7_058_44));
     assert_eq!(rest_of_five_years(&[(12, 1), (1, 2)], 51), given(777_41, 785_96, 9_400_08));
     assert_eq!(rest_of_five_years(&[(60, 1)], 55), given(0, 0, 0));
     let at = |increase| pay_off(&FIVE_YEARS, &[1; 18], 51, increase);
-    assert_eq!(at(1_000), given(672_01, 672_01, 8_037_24));
-    assert_eq!(at(9_999), given(672_01, 6_719_43, 80_364_38));
+    assert_eq!(at(1_000), given(672_02, 672_02, 8_037_36));
+    assert_eq!(at(9_999), given(672_02, 6_719_53, 80_365_58));
+    // 84,002.5 pence go up, though the credit's half went to the even penny.
+    assert_eq!(at(1_250), given(672_02, 840_03, 10_046_76));
 }
 
 #[test]
@@ -162,7 +164,7 @@ fn the_sample_of_the_case_file() {
                  \x20    3 50 67  0 2 1  9   1250111112\n\
                  \x20    4 50 65  0 2 1  5   1100\n";
     let printed = "     1  0   0 1     17150      7166         0\n\
-                   \x20    2  0   0 1     24200     42961         0\n\
+                   \x20    2  0   0 1     24200     42960         0\n\
                    \x20    3  0   0 5     17150         0     85750\n\
                    \x20    4  7   0 0         0         0         0\n";
     let mut listed = Vec::new();

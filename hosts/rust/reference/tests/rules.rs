@@ -4,6 +4,7 @@ use reference::credit::{month_value, row};
 use reference::marks::{first_bad, status};
 use reference::pay_off::{cost, increased};
 use reference::rates::{lump_sum_rate, monthly_rate, table, S};
+use reference::rounding::blend;
 use reference::samples::{self, Random};
 use reference::*;
 
@@ -45,12 +46,15 @@ fn tables_keep_the_print_rule_and_never_rise_along_a_row_or_fall_down_a_column()
     assert_eq!([15, 16, 64, 65].map(|age| lump_sum_rate(2, age)), [None, Some(1_170_00), Some(4_560_00), None]);
 }
 
+/// Puts right one thing that is wrong.
+type Mend<T> = fn(&mut T);
+
 #[test]
 fn refusals_come_in_their_order() {
     // Every field is wrong at first; each step mends the one that the refusal before it named.
     let mut terms = Terms { age: 90, pension_age_years: 64, pension_age_months: 12, option: 3, payer: 3, term: 21, amount: 1 };
     let held = 6_500_00;
-    let steps: [(u32, fn(&mut Terms)); 9] = [
+    let steps: [(u32, Mend<Terms>); 9] = [
         (1, |terms| terms.option = 1),
         (2, |terms| terms.pension_age_years = 66),
         (2, |terms| terms.pension_age_months = 11),
@@ -163,7 +167,7 @@ fn statuses() {
 fn odd_months_combine_whole_credits() {
     let odd = Terms { pension_age_years: 66, pension_age_months: 5, term: 4, age: 60, option: 1, amount: 1_500, ..TERMS };
     let credits = [66, 67].map(|pension_age| month_value(&row(&odd, pension_age), 9));
-    assert_eq!(settle(&odd, &[1; 9]).credit, (7 * credits[0] + 5 * credits[1] + 6) / 12);
+    assert_eq!(settle(&odd, &[1; 9]).credit, blend(5, credits[0], credits[1]));
 }
 
 #[test]
@@ -240,7 +244,7 @@ fn pay_off_refusals_come_in_their_order() {
         age_now: 65,
         increase: 999,
     };
-    let steps: [(u32, u32, fn(&mut Asked)); 16] = [
+    let steps: [(u32, u32, Mend<Asked>); 16] = [
         (1, 0, |asked| asked.terms.option = 1),
         (2, 0, |asked| asked.terms.pension_age_years = 66),
         (2, 0, |asked| asked.terms.pension_age_months = 11),
@@ -274,12 +278,12 @@ fn the_age_now_may_be_any_with_a_printed_lump_sum() {
         assert_eq!(at(age_now).refusal, refusal, "{age_now}");
     }
     // Below the age at election too: the cost goes by the age now alone.
-    assert_eq!([16, 64].map(|age_now| at(age_now).cost), [3_145_01, 12_257_46]);
+    assert_eq!([16, 64].map(|age_now| at(age_now).cost), [3_145_05, 12_257_64]);
     assert_eq!(pay_off(&Terms { age: 16, ..TERMS }, &[1; 60], 16, 1_000), PayOff::default());
 }
 
 #[test]
-fn halves_go_up_in_both_roundings() {
+fn halves_go_up_in_both_roundings_of_a_pay_off() {
     // 500.5, 4.5 and 1.5, then just under a half.
     assert_eq!([increased(5_00, 1_001), increased(3, 1_500), increased(1, 1_500), increased(1, 1_499)], [5_01, 5, 2, 1]);
     // At half a penny for a penny: 0.5, 1.5 and 2.5.
@@ -451,7 +455,7 @@ fn member_totals() {
         assert_eq!(post(&mut paid, 1).refusal, 0);
     }
     assert_eq!(member_total(&[]), MemberTotal::default());
-    assert_eq!(member_total(&[paid; 64]).total, 64 * 327_99);
+    assert_eq!(member_total(&[paid; 64]).total, 64 * 327_98);
     let bad = Record { count: 9_999, ..paid };
     assert_eq!(member_total(&[bad; 65]), MemberTotal { refusal: 14, index: 0, total: 0 });
     assert_eq!(member_total(&[paid, bad, bad]), MemberTotal { refusal: 13, index: 1, total: 0 });
