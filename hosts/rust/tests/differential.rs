@@ -5,6 +5,7 @@
 //! `AP_INPUTS` sets how many quotes and settlements together, and how many pay-offs, are made up.
 
 use additional_pension::raw::{self, Numbers};
+use reference::halves::{HalvesUp, PLACES};
 use reference::samples::{self, Random};
 use reference::Terms;
 use std::fmt::Debug;
@@ -65,6 +66,8 @@ struct Tally {
     refusals: [u64; 18],
     statuses: [u64; 7],
     longest: usize,
+    /// For each of the places where halves go to the even penny: the answers that would be others, if they went up there.
+    halves: [u64; PLACES.len()],
     rests: Rests,
     differences: u64,
 }
@@ -76,7 +79,8 @@ struct Rests {
     no_rate_now: u64,
     /// Taken, with nothing to pay.
     cost_nothing: u64,
-    /// Taken, with an increased pension that is half a penny more than whole before its rounding.
+    /// Taken, with an increased pension that is half a penny more than an even number before its rounding: it goes up, and would
+    /// go down to the even penny.
     halves: u64,
 }
 
@@ -91,16 +95,27 @@ impl Tally {
         }
     }
 
+    /// Counts, for each place, whether the answer would be another if halves went up there.
+    fn count_halves(&mut self, is_another: impl Fn(HalvesUp) -> bool) {
+        for (count, place) in self.halves.iter_mut().zip(PLACES) {
+            *count += u64::from(is_another(HalvesUp(&[place])));
+        }
+    }
+
     fn print(&self, call: &str) {
         println!("{call}: {} inputs, {} differences", self.inputs, self.differences);
         println!("  refusals: {}", Self::list(&self.refusals));
+        if self.halves.iter().any(|count| *count > 0) {
+            let halves: Vec<_> = PLACES.iter().zip(self.halves).map(|(place, count)| format!("{place:?}: {count}")).collect();
+            println!("  another answer with halves up: {}", halves.join(", "));
+        }
         if self.statuses.iter().any(|count| *count > 0) {
             println!("  statuses: {}", Self::list(&self.statuses));
             println!("  most marks in one input: {}", self.longest);
         }
         let Rests { no_rate_now, cost_nothing, halves } = self.rests;
         if no_rate_now + cost_nothing + halves > 0 {
-            println!("  refused 5 for the age now: {no_rate_now}, cost nothing: {cost_nothing}, halves: {halves}");
+            println!("  refused 5 for the age now: {no_rate_now}, cost nothing: {cost_nothing}, halves up to odd: {halves}");
         }
     }
 
@@ -130,6 +145,9 @@ fn compare_quote(random: &mut Random, tally: &mut Tally, terms: &Terms, existing
     let given = raw::quote(&Numbers::from(terms.numbers()), existing, last_number, out.piece());
     tally.inputs += 1;
     tally.refusals[value as usize] += 1;
+    if value == 0 {
+        tally.count_halves(|up| up.contribution(terms) != answer.contribution);
+    }
     tally.compare((terms, existing, last_number, length), (given, out.bytes), (value, expected));
 }
 
@@ -150,6 +168,7 @@ fn compare_settle(random: &mut Random, tally: &mut Tally, terms: &Terms, marks: 
     tally.longest = tally.longest.max(marks.len());
     if value == 0 {
         tally.statuses[answer.status as usize] += 1;
+        tally.count_halves(|up| up.contribution(terms) != answer.contribution || up.credit(terms, marks) != answer.credit);
     }
     tally.compare((terms, marks, length), (given, out.bytes, lent_marks.bytes), (value, expected, marks_before));
 }
@@ -181,7 +200,8 @@ fn compare_pay_off(
     if value == 0 {
         tally.statuses[settled.status as usize] += 1;
         tally.rests.cost_nothing += u64::from(answer.cost == 0);
-        tally.rests.halves += u64::from(answer.remaining * u64::from(increase) % 1_000 == 500);
+        tally.rests.halves += u64::from(answer.remaining * u64::from(increase) % 2_000 == 500);
+        tally.count_halves(|up| up.credit(terms, marks) != settled.credit);
     }
     tally.rests.no_rate_now += u64::from(value == 5 && settled.refusal == 0);
     let input = (terms, marks, age_now, increase, length);
@@ -219,6 +239,8 @@ fn made_up_inputs() {
     quotes.assert_met(&[0, 1, 2, 3, 4, 5, 7, 8, 9, 14]);
     settlements.assert_met(&[0, 1, 2, 3, 4, 5, 7, 8, 10, 11, 12, 14]);
     assert!(settlements.statuses.iter().all(|count| *count > 0), "every status is met");
+    assert_eq!(quotes.halves.map(|count| count > 0), [true, false, false, false]);
+    assert_eq!(settlements.halves.map(|count| count > 0), [true; 4]);
     assert_eq!(quotes.differences + settlements.differences, 0);
 }
 
@@ -246,6 +268,7 @@ fn made_up_pay_offs() {
     assert_eq!(pay_offs.statuses.map(|count| count > 0), [false, true, true, true, true, false, false]);
     let Rests { no_rate_now, cost_nothing, halves } = pay_offs.rests;
     assert!(no_rate_now > 0 && cost_nothing > 0 && halves > 0, "{:?}", pay_offs.rests);
+    assert_eq!(pay_offs.halves.map(|count| count > 0), [false, true, true, true]);
     assert_eq!(pay_offs.differences, 0);
 }
 
@@ -276,6 +299,8 @@ fn every_election() {
     }
     quotes.print("every election, quoted");
     settlements.print("every election, settled");
+    assert_eq!(quotes.halves.map(|count| count > 0), [true, false, false, false]);
+    assert_eq!(settlements.halves.map(|count| count > 0), [true; 4]);
     assert_eq!(quotes.differences + settlements.differences, 0);
 }
 

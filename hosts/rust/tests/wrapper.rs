@@ -24,7 +24,7 @@ fn a_settlement() {
     marks.extend([MISSED; 4]);
     marks.extend([PAID; 6]);
     let settled = settle(&TERMS, &marks).unwrap();
-    assert_eq!((settled.status, settled.credit, settled.refund), (Status::Paying, Pension(429_61), Contribution(0)));
+    assert_eq!((settled.status, settled.credit, settled.refund), (Status::Paying, Pension(429_60), Contribution(0)));
     let refunded = settle(&TERMS, &[PAID, PAID, ENDED]).unwrap();
     assert_eq!((refunded.status, refunded.credit, refunded.refund), (Status::Refunded, Pension(0), Contribution(484_00)));
 }
@@ -32,7 +32,7 @@ fn a_settlement() {
 #[test]
 fn a_pay_off() {
     let paid_off = pay_off(&TERMS, &[PAID; 18], 51, 1_011).unwrap();
-    let expected = PayOff { remaining: Pension(672_01), increased: Pension(679_40), cost: Contribution(8_125_62) };
+    let expected = PayOff { remaining: Pension(672_02), increased: Pension(679_41), cost: Contribution(8_125_74) };
     assert_eq!(paid_off, expected);
     let nothing = PayOff { remaining: Pension(0), increased: Pension(0), cost: Contribution(0) };
     assert_eq!(pay_off(&TERMS, &[PAID; 60], 55, 1_011).unwrap(), nothing);
