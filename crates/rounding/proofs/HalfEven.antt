@@ -61,19 +61,11 @@ half-nearest n d r d0 p = record { nearest = λ x. near x (order x r); even = λ
 -- n divided by d is q with the rest r
 module _ (n d q r : ℕ) (d0 : 0 < d) (e : d * q + r ≡ n) (l : r < d) where
   -- q is it where the rest is less than half of d, or just half and q even; else the next number is
-  pub half-low : 2 * r < d → Half n d q
-  half-low h =
-      record { above = omega arith; below = omega arith; above-even = λ x. absurd (omega arith); below-even = λ x. absurd (omega arith) }
+  pub half-low : 2 * r + q % 2 ≤ d → Half n d q
+  half-low h = record { above = omega arith; below = omega arith; above-even = λ x. absurd (omega arith); below-even = λ x. omega arith }
 
-  pub half-high : d < 2 * r → Half n d (q + 1)
-  half-high h =
-      record { above = omega arith; below = omega arith; above-even = λ x. absurd (omega arith); below-even = λ x. absurd (omega arith) }
-
-  pub half-tie-low : 2 * r ≡ d → q % 2 ≡ 0 → Half n d q
-  half-tie-low h z = record { above = omega arith; below = omega arith; above-even = λ x. z; below-even = λ x. z }
-
-  pub half-tie-high : 2 * r ≡ d → (q % 2 ≡ 0 → ⊥) → Half n d (q + 1)
-  half-tie-high h z = record { above = omega arith; below = omega arith; above-even = λ x. omega arith; below-even = λ x. omega arith }
+  pub half-high : d < 2 * r + q % 2 → Half n d (q + 1)
+  half-high h = record { above = omega arith; below = omega arith; above-even = λ x. omega arith; below-even = λ x. absurd (omega arith) }
 
   nearer-half : Half n d (nearer n d q (q + 1))
   unfolding nearer offBy
@@ -87,8 +79,8 @@ module _ (n d q r : ℕ) (d0 : 0 < d) (e : d * q + r ≡ n) (l : r < d) where
       rw (a, b) (half-high (omega arith)))
       (λ b. let same : offBy n d q ≤ offBy n d (q + 1) = ltb-false _ _ b in
       by-test (eqb (q % 2) 0)
-      (λ z. rw (a, b, z) (half-tie-low (omega arith) (eqb-true _ _ z)))
-      (λ z. rw (a, b, z) (half-tie-high (omega arith) (eqb-false _ _ z)))))
+      (λ z. rw (a, b, z) (half-low (omega (arith, eqb-true (q % 2) 0 z))))
+      (λ z. rw (a, b, z) (half-high (omega (arith, eqb-false (q % 2) 0 z))))))
 
 half-even-half : (n d : ℕ) → 0 < d → Half n d (halfEven n d)
 unfolding halfEven

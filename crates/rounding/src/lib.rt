@@ -1,6 +1,7 @@
 // Rounding to the nearest whole number, and the blend of two figures by twelfths.
 // Callers go by the laws of proofs/InForce and proofs/Laws, so that another rounding can stand behind the name `nearest`.
 ghost use mathlib.Core.Path.{_≡_};
+ghost use Prim.Native.Nat.{_%_};
 ghost use Rattle.rounding.specs.HalfEven.{halfEven};
 ghost use Rattle.rounding.specs.Nearest.{halfUp, nearest, blend};
 
@@ -19,7 +20,15 @@ pub fn half_up(n: u64, d: u64) -> u64
     whole + 1
 }
 
-// n ÷ d to the nearest whole number, a half going to the even one; 0 where d is 0.
+// What an odd number is above an even one.
+fn odd(n: u64) -> u64
+    ensures { λ r. ⌜ r ≡ n % 2 ⌝ }
+{
+    n % 2
+}
+
+// n ÷ d to the nearest whole number, a half going to the even one; 0 where d is 0. Under an odd number the rest counts for one more:
+// that decides at a half, and nowhere else.
 pub fn half_even(n: u64, d: u64) -> u64
     ensures { λ r. ⌜ r ≡ halfEven n d ⌝ }
 {
@@ -28,14 +37,7 @@ pub fn half_even(n: u64, d: u64) -> u64
     }
     let low = n / d;
     let rest = n % d;
-    let missing = d - rest;
-    if rest < missing {
-        return low;
-    }
-    if missing < rest {
-        return low + 1;
-    }
-    if low % 2 == 0 {
+    if rest + odd(low) <= d - rest {
         return low;
     }
     low + 1
