@@ -3,6 +3,7 @@
 use mathlib.Core.List.{map}
 use mathlib.Core.Path.{_≡_, refl}
 use Rattle.common.specs.Table.{tabulate}
+use Rattle.rounding.specs.HalfEven.{offBy, nearer, halfEven}
 use Rattle.rounding.specs.Nearest.{halfUp, nearest, blend, combine}
 use Rattle.rates.specs.Rates.{tableOf, cellOf, rateOf, lumpColumn, lumpRateOf}
 use Rattle.terms.specs.Rate.{rateFor, tableRate}
@@ -23,5 +24,5 @@ use Rattle.rows.specs.Rows.{Row}
 use Rattle.rows.specs.PayOffRows.{stepRows, halfRows, contractRows, refusedRows, payOffRows}
 
 pub all-pay-off-rows : map (λ (r : Row). r .found) payOffRows ≡ map (λ (r : Row). r .stated) payOffRows
-unfolding payOffRows stepRows halfRows contractRows refusedRows payOffOf contractPayOff contractRefusal nothingToPayOff wrongIncrease noLumpSumNow increasedBy rateTwelfths priceOf lumpRateOf lumpColumn settleOf settleRefusal settlePlace creditAtStatus refundAtStatus creditOf creditIn creditOver earned runsIn runsFrom runFrom monthValue yearCredits yearCredit tabulate marksOf readOn stepBy nextRefusalOf countMark statusOf stoppedOf lastOr allPaid paidMonths paidThrough finalGap contributionOf contributionIn contributionAt tableRate rateFor rateOf cellOf tableOf combine blend nearest halfUp refusalOf termsRefusal priceRefusal wrongOption wrongPensionAge wrongTerm wrongPayer noRate noUpperRate wrongAmount aboveCap
+unfolding payOffRows stepRows halfRows contractRows refusedRows payOffOf contractPayOff contractRefusal nothingToPayOff wrongIncrease noLumpSumNow increasedBy rateTwelfths priceOf lumpRateOf lumpColumn settleOf settleRefusal settlePlace creditAtStatus refundAtStatus creditOf creditIn creditOver earned runsIn runsFrom runFrom monthValue yearCredits yearCredit tabulate marksOf readOn stepBy nextRefusalOf countMark statusOf stoppedOf lastOr allPaid paidMonths paidThrough finalGap contributionOf contributionIn contributionAt tableRate rateFor rateOf cellOf tableOf combine blend nearest halfEven nearer offBy halfUp refusalOf termsRefusal priceRefusal wrongOption wrongPensionAge wrongTerm wrongPayer noRate noUpperRate wrongAmount aboveCap
 all-pay-off-rows = refl

@@ -3,7 +3,8 @@
 use mathlib.Core.List.{map}
 use mathlib.Core.Path.{_≡_, refl}
 use Rattle.common.specs.Table.{tabulate}
-use Rattle.rounding.specs.Nearest.{halfUp, nearest, blend, combine}
+use Rattle.rounding.specs.HalfEven.{offBy, nearer, halfEven}
+use Rattle.rounding.specs.Nearest.{nearest, blend, combine}
 use Rattle.rates.specs.Rates.{tableOf, cellOf, rateOf}
 use Rattle.terms.specs.Rate.{rateFor, tableRate}
 use Rattle.terms.specs.Rules.{wrongOption, wrongPensionAge, wrongTerm, wrongPayer, noRate, noUpperRate, wrongAmount, aboveCap, termsRefusal, priceRefusal, refusalOf}
@@ -21,5 +22,5 @@ use Rattle.settlement.specs.Settle.{creditAtStatus, refundAtStatus, settleOf}
 use Rattle.rows.specs.Rows.{Row, priceRows, creditRows, exactRows, statusRows, tellingRows, rows}
 
 pub all-rows : map (λ (r : Row). r .found) rows ≡ map (λ (r : Row). r .stated) rows
-unfolding rows priceRows creditRows exactRows statusRows tellingRows settleOf settleRefusal settlePlace creditAtStatus refundAtStatus creditOf creditIn creditOver earned runsIn runsFrom runFrom monthValue yearCredits yearCredit tabulate marksOf readOn stepBy nextRefusalOf countMark statusOf stoppedOf lastOr allPaid paidMonths paidThrough finalGap contributionOf contributionIn contributionAt tableRate rateFor rateOf cellOf tableOf combine blend nearest halfUp refusalOf termsRefusal priceRefusal wrongOption wrongPensionAge wrongTerm wrongPayer noRate noUpperRate wrongAmount aboveCap exactCreditOf exactCredit exactFrom exactMonth exactYear
+unfolding rows priceRows creditRows exactRows statusRows tellingRows settleOf settleRefusal settlePlace creditAtStatus refundAtStatus creditOf creditIn creditOver earned runsIn runsFrom runFrom monthValue yearCredits yearCredit tabulate marksOf readOn stepBy nextRefusalOf countMark statusOf stoppedOf lastOr allPaid paidMonths paidThrough finalGap contributionOf contributionIn contributionAt tableRate rateFor rateOf cellOf tableOf combine blend nearest halfEven nearer offBy refusalOf termsRefusal priceRefusal wrongOption wrongPensionAge wrongTerm wrongPayer noRate noUpperRate wrongAmount aboveCap exactCreditOf exactCredit exactFrom exactMonth exactYear
 all-rows = refl

@@ -40,11 +40,11 @@ fourYears = record { age = 60; years = 66; months = 5; option = 1; payer = 1; te
 -- £1,000 over 5 years: 18 paid months, the gap, ceased, complete; then the other contract
 unfoldable pub contractRows : List Row
 contractRows =
-    (paidOff fiveYears (paidFor 18) 51 1011 is (0 ∷ 0 ∷ 67201 ∷ 67940 ∷ 812562 ∷ []))
-    ∷ (paidOff fiveYears (paidFor 18 ++ (missedFor 4 ++ paidFor 6)) 52 1011 is (0 ∷ 0 ∷ 57039 ∷ 57666 ∷ 705832 ∷ []))
+    (paidOff fiveYears (paidFor 18) 51 1011 is (0 ∷ 0 ∷ 67202 ∷ 67941 ∷ 812574 ∷ []))
+    ∷ (paidOff fiveYears (paidFor 18 ++ (missedFor 4 ++ paidFor 6)) 52 1011 is (0 ∷ 0 ∷ 57040 ∷ 57667 ∷ 705844 ∷ []))
     ∷ (paidOff fiveYears (paidFor 12 ++ (2 ∷ [])) 51 1011 is (0 ∷ 0 ∷ 77741 ∷ 78596 ∷ 940008 ∷ []))
     ∷ (paidOff fiveYears (paidFor 60) 55 1011 is (0 ∷ 0 ∷ 0 ∷ 0 ∷ 0 ∷ []))
-    ∷ (paidOff fourYears (paidFor 9) 61 1011 is (0 ∷ 0 ∷ 119082 ∷ 120392 ∷ 1829958 ∷ []))
+    ∷ (paidOff fourYears (paidFor 9) 61 1011 is (0 ∷ 0 ∷ 119083 ∷ 120393 ∷ 1829974 ∷ []))
     ∷ []
 
 -- refusals: a mark that Settle refuses, no marks, refunded, each at an increase and an age that would be refused too; then at the

@@ -1,5 +1,5 @@
--- Document 01, "Figures at the edges": the figures marked P, and two more that a misreading would change. A row holds what the
--- definitions give and what the paper states.
+-- Document 01, "Figures at the edges", amended by request 2 of document 02: the figures marked P, and two more that a misreading would
+-- change. A row holds what the definitions give and what the papers state.
 -- Assumes nothing.
 use mathlib.Core.List.{List, [], _∷_, _++_}
 use Prim.Native.Nat.{ℕ, _*_, _/_}
@@ -82,10 +82,10 @@ creditRows =
     (firstYears 2 nineYears is (0 ∷ 17198 ∷ []))
     ∷ (settled nineYears (paidFor 5) is (0 ∷ 0 ∷ 17150 ∷ 1 ∷ 7166 ∷ 0 ∷ []))
     ∷ (firstYears 6 fiveYears is (0 ∷ 22259 ∷ 43338 ∷ 63285 ∷ 82201 ∷ 100000 ∷ []))
-    ∷ (settled fiveYears (paidFor 18) is (0 ∷ 0 ∷ 24200 ∷ 1 ∷ 32799 ∷ 0 ∷ []))
+    ∷ (settled fiveYears (paidFor 18) is (0 ∷ 0 ∷ 24200 ∷ 1 ∷ 32798 ∷ 0 ∷ []))
     ∷ (only (twelfthsAt fiveYears 18) is only 393582)
-    ∷ ((valueAt fiveYears 18 ∷ valueAt fiveYears 28 ∷ valueAt fiveYears 22 ∷ []) is (32799 ∷ 49987 ∷ 39825 ∷ []))
-    ∷ (settled fiveYears (paidFor 18 ++ (missedFor 4 ++ paidFor 6)) is (0 ∷ 0 ∷ 24200 ∷ 1 ∷ 42961 ∷ 0 ∷ []))
+    ∷ ((valueAt fiveYears 18 ∷ valueAt fiveYears 28 ∷ valueAt fiveYears 22 ∷ []) is (32798 ∷ 49987 ∷ 39825 ∷ []))
+    ∷ (settled fiveYears (paidFor 18 ++ (missedFor 4 ++ paidFor 6)) is (0 ∷ 0 ∷ 24200 ∷ 1 ∷ 42960 ∷ 0 ∷ []))
     ∷ []
 
 -- a fraction's whole part, and that it is n ÷ d, multiplied out
