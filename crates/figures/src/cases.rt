@@ -207,7 +207,7 @@ pub const PAY_OFFS: [u64; 612] = [
     PAY_OFF, 60, 66, 5, 1, 1,  4, 1500, 1,  9, 0,  0, 0,  0, 0, 0, 61,  1011, // document 001's example 5 at this scheme's rates
     PAY_OFF, 50, 65, 0, 2, 1,  5, 1000, 1, 18, 0,  0, 0,  0, 0, 0, 51,  1000, // the lowest increase
     PAY_OFF, 50, 65, 0, 2, 1,  5, 1000, 1, 18, 0,  0, 0,  0, 0, 0, 51,  9999, // the highest
-    PAY_OFF, 50, 65, 0, 2, 1,  5, 1000, 1, 18, 0,  4, 1,  6, 0, 0, 52,  1500, // a half penny goes up
+    PAY_OFF, 50, 65, 0, 2, 1,  5, 1000, 1, 18, 0,  4, 1,  6, 0, 0, 52,  1500, // half as much again
     PAY_OFF, 50, 65, 0, 2, 1,  5, 1000, 1, 18, 0,  0, 0,  0, 0, 0, 16,  1011, // the lowest age now, below that at the election
     PAY_OFF, 50, 65, 0, 2, 1,  5, 1000, 1, 18, 0,  0, 0,  0, 0, 0, 64,  1011, // the highest
     PAY_OFF, 63, 65, 0, 2, 1,  1, 6500, 1,  1, 0,  0, 0,  0, 0, 0, 64,  9999, // the greatest amount at the highest of both
@@ -230,4 +230,30 @@ pub const PAY_OFFS: [u64; 612] = [
     PAY_OFF, 50, 65, 0, 2, 1,  5, 1000, 1, 61, 0,  0, 0,  0, 0, 0, 65,   999, // 10, as Settle refuses
     PAY_OFF, 50, 65, 0, 2, 1,  5, 1000, 1,  3, 3,  1, 0,  0, 0, 0, 65,   999, // 11 at 3, as Settle refuses
     PAY_OFF, 50, 65, 0, 2, 1,  5, 1000, 1,  1, 0, 12, 1,  1, 0, 0, 65,   999, // 12 at 13, as Settle refuses
+];
+
+// Exact halves, by request 2 of document 02: each goes to the even penny, but that of a pay-off goes up.
+pub const HALVES: [u64; 214] = [
+    NEAREST, 1, 2,
+    NEAREST, 3, 2,
+    NEAREST, 18446744073709551613, 2,
+    NEAREST, 18446744073709551615, 2, // the greatest number there is
+    NEAREST, 9223372036854775807, 18446744073709551614,
+    NEAREST, 9223372036854775807, 18446744073709551615, // just below a half
+    NEAREST, 9223372036854775808, 18446744073709551615, // just above
+    NEAREST, 18446744073709551615, 0, // over nothing there is nothing
+    BLEND, 6, 32799, 32798, // down, to an even figure
+    BLEND, 6, 32799, 32800, // up, to an even figure
+    QUOTE, 50, 65,  5, 2, 1, 4,  750, 0, 0, // contribution, 21,692.5 pence: down
+    QUOTE, 50, 65,  7, 2, 1, 4,  750, 0, 1, // 21,537.5: up
+    SETTLE, 50, 65,  5, 2, 1, 4,  750, 1,  3, 2, 1, 0, 0, 0, 0, // refunded: three times the first
+    SETTLE, 50, 67,  0, 2, 1, 8, 1500, 1, 24, 0, 0, 0, 0, 0, 0, // whole year, 44,062.5: down
+    SETTLE, 50, 67,  0, 2, 1, 3, 1000, 1, 24, 0, 0, 0, 0, 0, 0, // 68,437.5: up
+    SETTLE, 50, 65,  0, 2, 1, 5, 1000, 1, 18, 0, 0, 0, 0, 0, 0, // month value, 32,798.5: down
+    SETTLE, 50, 65,  0, 2, 1, 5, 1000, 1, 18, 0, 4, 1, 6, 0, 0, // the same, then a gap
+    SETTLE, 50, 65,  0, 2, 1, 5, 1000, 1,  6, 0, 0, 0, 0, 0, 0, // 11,129.5: up
+    SETTLE, 50, 65,  0, 2, 1, 2, 1000, 1,  1, 0, 5, 1, 1, 0, 0, // a run from 25,680.5 on: the credit is a penny more than with a half up
+    SETTLE, 50, 65,  6, 2, 1, 2, 1000, 1,  1, 0, 0, 0, 0, 0, 0, // both tables, 4,278.5: down
+    SETTLE, 50, 65, 10, 2, 1, 2, 1000, 1,  1, 0, 0, 0, 0, 0, 0, // 4,277.5: up
+    PAY_OFF, 50, 65, 0, 2, 1, 5, 1000, 1, 18, 0, 0, 0, 0, 0, 0, 51, 1250, // increased pension, 84,002.5: up, here as ever
 ];

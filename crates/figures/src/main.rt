@@ -1,6 +1,6 @@
-// The documents' figures, and the cap decision, Quote, Settle, Schedule and the pay-off at their edges, one to a line: what is asked,
-// then what the part gives, money in pence. The figures that are marked as proved are rows of crate `rows`; the file stdout holds what the
-// others must be. Posting and the member total are run by program `posting`.
+// The documents' figures, the cap decision, Quote, Settle, Schedule and the pay-off at their edges, and exact halves, one to a line: what
+// is asked, then what the part gives, money in pence. The figures that are marked as proved are rows of crate `rows`; the file stdout holds
+// what the others must be. Posting and the member total are run by program `posting`.
 mod cases;
 mod elapsed;
 mod line;
@@ -29,10 +29,15 @@ fn pay_offs() {
     print_table(b"02 ", &cases::PAY_OFFS);
 }
 
+fn halves() {
+    print_table(b"02 ", &cases::HALVES);
+}
+
 fn main() {
     document_000();
     document_001();
     document_01();
     edges();
     pay_offs();
+    halves();
 }

@@ -61,10 +61,10 @@ half-nearest n d r d0 p = record { nearest = λ x. near x (order x r); even = λ
 -- n divided by d is q with the rest r
 module _ (n d q r : ℕ) (d0 : 0 < d) (e : d * q + r ≡ n) (l : r < d) where
   -- q is it where the rest is less than half of d, or just half and q even; else the next number is
-  pub half-low : 2 * r + q % 2 ≤ d → Half n d q
+  half-low : 2 * r + q % 2 ≤ d → Half n d q
   half-low h = record { above = omega arith; below = omega arith; above-even = λ x. absurd (omega arith); below-even = λ x. omega arith }
 
-  pub half-high : d < 2 * r + q % 2 → Half n d (q + 1)
+  half-high : d < 2 * r + q % 2 → Half n d (q + 1)
   half-high h = record { above = omega arith; below = omega arith; above-even = λ x. omega arith; below-even = λ x. absurd (omega arith) }
 
   nearer-half : Half n d (nearer n d q (q + 1))
@@ -102,10 +102,17 @@ half-keeps a b c d r s b0 d0 h p q = go (decLe r s)
         absurd (omega arith)
 
 -- two numbers that are so are one
-pub half-is : (n d r : ℕ) → 0 < d → Half n d r → r ≡ halfEven n d
+half-is : (n d r : ℕ) → 0 < d → Half n d r → r ≡ halfEven n d
 half-is n d r d0 p =
     let q = half-even-half n d d0 in
     le-antisymm (half-keeps n d n d r _ d0 d0 (omega arith) p q) (half-keeps n d n d _ r d0 d0 (omega arith) q p)
+
+-- n divided by d is q with the rest r: q where the rest is less than half of d, or just half and q even; else the next number
+pub half-even-low : (n d q r : ℕ) → q * d + r ≡ n → r < d → 2 * r + q % 2 ≤ d → q ≡ halfEven n d
+half-even-low n d q r e l h = half-is n d q (omega arith) (half-low n d q r (omega arith) (omega arith) l h)
+
+pub half-even-high : (n d q r : ℕ) → q * d + r ≡ n → r < d → d < 2 * r + q % 2 → q + 1 ≡ halfEven n d
+half-even-high n d q r e l h = half-is n d (q + 1) (omega arith) (half-high n d q r (omega arith) (omega arith) l h)
 
 -- it is what the rule asks for, and the only number that is
 pub half-even-nearest : (n d : ℕ) → 0 < d → NearestEven n d (halfEven n d)

@@ -20,15 +20,15 @@ pub fn half_up(n: u64, d: u64) -> u64
     whole + 1
 }
 
-// What an odd number is above an even one.
+// 1 for an odd number, 0 for an even one.
 fn odd(n: u64) -> u64
     ensures { λ r. ⌜ r ≡ n % 2 ⌝ }
 {
     n % 2
 }
 
-// n ÷ d to the nearest whole number, a half going to the even one; 0 where d is 0. Under an odd number the rest counts for one more:
-// that decides at a half, and nowhere else.
+// n ÷ d to the nearest whole number, a half going to the even one; 0 where d is 0. Above an odd number the rest counts for one more: that
+// decides at a half, and nowhere else.
 pub fn half_even(n: u64, d: u64) -> u64
     ensures { λ r. ⌜ r ≡ halfEven n d ⌝ }
 {

@@ -37,10 +37,12 @@ paidOff t marks ageNow increase =
 abbrev pub fourYears : Terms
 fourYears = record { age = 60; years = 66; months = 5; option = 1; payer = 1; term = 4; amount = 1500 }
 
--- £1,000 over 5 years: 18 paid months, the gap, ceased, complete; then the other contract
+-- £1,000 over 5 years: 18 paid months, at 1.250 also, where half a penny goes up though that of the credit went down; the gap, ceased,
+-- complete; then the other contract
 unfoldable pub contractRows : List Row
 contractRows =
     (paidOff fiveYears (paidFor 18) 51 1011 is (0 ∷ 0 ∷ 67202 ∷ 67941 ∷ 812574 ∷ []))
+    ∷ (paidOff fiveYears (paidFor 18) 51 1250 is (0 ∷ 0 ∷ 67202 ∷ 84003 ∷ 1004676 ∷ []))
     ∷ (paidOff fiveYears (paidFor 18 ++ (missedFor 4 ++ paidFor 6)) 52 1011 is (0 ∷ 0 ∷ 57040 ∷ 57667 ∷ 705844 ∷ []))
     ∷ (paidOff fiveYears (paidFor 12 ++ (2 ∷ [])) 51 1011 is (0 ∷ 0 ∷ 77741 ∷ 78596 ∷ 940008 ∷ []))
     ∷ (paidOff fiveYears (paidFor 60) 55 1011 is (0 ∷ 0 ∷ 0 ∷ 0 ∷ 0 ∷ []))

@@ -1,4 +1,4 @@
--- `rounding::half_even` meets its contract: the rest, counted for one more under an odd number, is compared with what is missing.
+-- `rounding::half_even` meets its contract: the rest, counted for one more above an odd number, is compared with what is missing.
 -- Assumes nothing.
 use mathlib.Core.Path.{_≡_, sym}
 use Prim.Native.Nat.{ℕ, _+_, _*_, _-_, _%_, _≤_, _<_, _^_}
@@ -7,7 +7,7 @@ use native.Mathlib.Omega.{arith}
 use borrow.Author.Needs.{needs}
 use Rattle.rounding.specs.HalfEven.{halfEven}
 use Rattle.rounding.proofs.Division.{rest-low, room}
-use Rattle.rounding.proofs.HalfEven.{half-is, half-low, half-high, half-even-none}
+use Rattle.rounding.proofs.HalfEven.{half-even-low, half-even-high, half-even-none}
 use Rattle.rounding.proofs.half_even.Statement.{statement}
 use Rattle.rounding.proofs.half_even.Tie as tie
 
@@ -17,10 +17,10 @@ none n d e = rw e (sym (half-even-none n))
 -- n divided by d is q with the rest r, and w is 1 where q is odd
 module _ (n d q r w : ℕ) (e : q * d + r ≡ n) (l : r < d) (odd : w ≡ q % 2) where
   down : r + w ≤ d - r → q ≡ halfEven n d
-  down h = half-is n d q (omega arith) (half-low n d q r (omega arith) (omega arith) l (omega arith))
+  down h = half-even-low n d q r e l (omega arith)
 
   up : d - r < r + w → q + 1 ≡ halfEven n d
-  up h = half-is n d (q + 1) (omega arith) (half-high n d q r (omega arith) (omega arith) l (omega arith))
+  up h = half-even-high n d q r e l (omega arith)
 
   room-up : (k : ℕ) → d - r < r + w → n < 2 * k → 1 < k → q + 1 < 2 * k
   room-up k h = room n d q r k e l (omega arith)

@@ -2,6 +2,7 @@
 -- Assumes nothing.
 use mathlib.Core.Path.{ap}
 use borrow.Author.Needs.{needs}
+use Rattle.rounding.specs.Nearest.{blend}
 use Rattle.money.specs.Money.{contribution}
 use Rattle.money.proofs.ContributionPence.blend.Statement.{statement}
 use Rattle.money.proofs.ContributionPence.blend.Tie as tie
@@ -15,7 +16,9 @@ cast-blend-2 c = search needs
 blend-requires : tie.Need-blend-requires
 blend-requires c κs = search needs
 
+-- opened, so that a blend by another rounding is refused for its rounding alone
 returns : tie.Need-returns
+unfolding blend
 returns c = ap contribution (c .blend .ensures)
 
 pub blend-spec : {M : Type 1} → statement M
