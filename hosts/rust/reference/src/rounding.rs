@@ -1,5 +1,7 @@
 //! Rounding to whole pence.
 
+use std::cmp::Ordering;
+
 /// `numerator ÷ denominator` to the nearest whole number, a half going up: both roundings of a pay-off.
 pub fn half_up(numerator: u64, denominator: u64) -> u64 {
     (2 * numerator + denominator) / (2 * denominator)
@@ -13,9 +15,11 @@ pub fn nearest(numerator: u64, denominator: u64) -> u64 {
     }
     let (below, past) = (numerator / denominator, numerator % denominator);
     let short_of_next = denominator - past;
-    // At an exact half these two are equal, and the 1 of an odd number makes it give way to the next.
-    let odd = below % 2;
-    below + u64::from(past + odd > short_of_next)
+    match past.cmp(&short_of_next) {
+        Ordering::Less => below,
+        Ordering::Equal if below.is_multiple_of(2) => below,
+        Ordering::Equal | Ordering::Greater => below + 1,
+    }
 }
 
 /// The figure that lies `twelfths` twelfths of the way from `from` to `to`.
