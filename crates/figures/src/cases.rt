@@ -232,7 +232,7 @@ pub const PAY_OFFS: [u64; 612] = [
     PAY_OFF, 50, 65, 0, 2, 1,  5, 1000, 1,  1, 0, 12, 1,  1, 0, 0, 65,   999, // 12 at 13, as Settle refuses
 ];
 
-// Exact halves, by request 2 of document 02: each goes to the even penny, but that of a pay-off goes up.
+// Exact halves, and quotients beside them, by request 2 of document 02: a half goes to the even number, but that of a pay-off goes up.
 pub const HALVES: [u64; 214] = [
     NEAREST, 1, 2,
     NEAREST, 3, 2,

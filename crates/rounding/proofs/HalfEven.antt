@@ -13,7 +13,7 @@ use Rattle.common.proofs.Tests.{by-test}
 use Rattle.rounding.specs.HalfEven.{offBy, NearestEven, nearer, halfEven}
 use Rattle.rounding.specs.Rounding.{WithinHalf, Monotone}
 
--- the same multiplied out: r is within a half of n ÷ d, and even where it is just a half away, above or below
+-- `NearestEven` multiplied out: r is within a half of n ÷ d, and even where it is exactly a half away, above or below
 pub record Half (n d r : ℕ) : Type 0 where
   pub above : 2 * d * r ≤ 2 * n + d
   pub below : 2 * n ≤ 2 * d * r + d
@@ -24,11 +24,11 @@ pub record Half (n d r : ℕ) : Type 0 where
 nearest-half : (n d r : ℕ) → 0 < d → NearestEven n d r → Half n d r
 unfolding offBy
 nearest-half n d zero d0 p =
-    record { above = omega arith; below = omega (arith, p .nearest 1); above-even = λ e. refl; below-even = λ e. refl }
+    record { above = omega arith; below = omega (arith, p .none-nearer 1); above-even = λ e. refl; below-even = λ e. refl }
 nearest-half n d (suc k) d0 p =
     record {
-      above = omega (arith, p .nearest k);
-      below = omega (arith, p .nearest (suc (suc k)));
+      above = omega (arith, p .none-nearer k);
+      below = omega (arith, p .none-nearer (suc (suc k)));
       above-even = λ e. p .even k (λ z. omega arith) (omega arith);
       below-even = λ e. p .even (suc (suc k)) (λ z. omega arith) (omega arith);
     }
@@ -37,10 +37,10 @@ nearest-half n d (suc k) d0 p =
 order : (x r : ℕ) → (x < r) ⊎ ((x ≡ r) ⊎ (r < x))
 order x r = by-test (ltb x r) (λ e. inl (ltb-true x r e)) (λ e. inr (⊎-elim (λ z. inl (sym z)) inr (eq-or-lt-of-le (ltb-false x r e))))
 
--- and what is within a half is nearer than any other number
+-- and no number is nearer than one within a half
 half-nearest : (n d r : ℕ) → 0 < d → Half n d r → NearestEven n d r
 unfolding offBy
-half-nearest n d r d0 p = record { nearest = λ x. near x (order x r); even = λ x other e. tie x other e (order x r) }
+half-nearest n d r d0 p = record { none-nearer = λ x. near x (order x r); even = λ x other e. tie x other e (order x r) }
   where
     -- the next multiple is d further
     next : (a b : ℕ) → a < b → d * a + d ≤ d * b
@@ -60,7 +60,7 @@ half-nearest n d r d0 p = record { nearest = λ x. near x (order x r); even = λ
 
 -- n divided by d is q with the rest r
 module _ (n d q r : ℕ) (d0 : 0 < d) (e : d * q + r ≡ n) (l : r < d) where
-  -- q is it where the rest is less than half of d, or just half and q even; else the next number is
+  -- q is it where the rest is less than half of d, or exactly half and q even; else the next number is
   half-low : 2 * r + q % 2 ≤ d → Half n d q
   half-low h = record { above = omega arith; below = omega arith; above-even = λ x. absurd (omega arith); below-even = λ x. omega arith }
 
@@ -86,7 +86,7 @@ half-even-half : (n d : ℕ) → 0 < d → Half n d (halfEven n d)
 unfolding halfEven
 half-even-half n d d0 = nearer-half n d (n / d) (n % d) d0 (div-add-mod n d) (mod-lt n d0)
 
--- a greater quotient has no smaller number
+-- a quotient that is at least as great has no smaller number
 half-keeps : (a b c d r s : ℕ) → 0 < b → 0 < d → a * d ≤ c * b → Half a b r → Half c d s → r ≤ s
 half-keeps a b c d r s b0 d0 h p q = go (decLe r s)
   where
@@ -101,13 +101,13 @@ half-keeps a b c d r s b0 d0 h p q = go (decLe r s)
         let u : s % 2 ≡ 0 = q .below-even (eq-of-mul-eq-mul-right b b0 _ _ (omega arith)) in
         absurd (omega arith)
 
--- two numbers that are so are one
+-- two such numbers are the same
 half-is : (n d r : ℕ) → 0 < d → Half n d r → r ≡ halfEven n d
 half-is n d r d0 p =
     let q = half-even-half n d d0 in
     le-antisymm (half-keeps n d n d r _ d0 d0 (omega arith) p q) (half-keeps n d n d _ r d0 d0 (omega arith) q p)
 
--- n divided by d is q with the rest r: q where the rest is less than half of d, or just half and q even; else the next number
+-- n divided by d is q with the rest r: q where the rest is less than half of d, or exactly half and q even; else the next number
 pub half-even-low : (n d q r : ℕ) → q * d + r ≡ n → r < d → 2 * r + q % 2 ≤ d → q ≡ halfEven n d
 half-even-low n d q r e l h = half-is n d q (omega arith) (half-low n d q r (omega arith) (omega arith) l h)
 

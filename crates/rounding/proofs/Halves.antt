@@ -13,7 +13,7 @@ use Rattle.rounding.proofs.HalfUp.{half-up-low, half-up-high}
 use Rattle.rounding.proofs.HalfEven.{half-even-low, half-even-high}
 
 module _ (n d : ℕ) (d0 : 0 < d) where
-  -- the rest is below a half, or above one
+  -- the rest is less than half of d, or more
   below : 2 * (n % d) < d → halfEven n d ≡ halfUp n d
   below h =
       sym (half-even-low n d (n / d) (n % d) (div-add-mod' n d) (mod-lt n d0) (omega arith))
@@ -24,12 +24,12 @@ module _ (n d : ℕ) (d0 : 0 < d) where
       sym (half-even-high n d (n / d) (n % d) (div-add-mod' n d) (mod-lt n d0) (omega arith))
       ∙ half-up-high n d (n / d) (n % d) (div-add-mod' n d) (mod-lt n d0) (omega arith)
 
-  -- where it is not just a half, both rules give the same number
+  -- where it is not exactly half of d, both rules give the same number
   pub off-half : (2 * (n % d) ≡ d → ⊥) → halfEven n d ≡ halfUp n d
   off-half other =
       by-test (ltb (2 * (n % d)) d) (λ e. below (ltb-true _ _ e)) (λ e. above (omega (arith, other, ltb-false (2 * (n % d)) d e)))
 
-  -- where it is, the one gives the next number, and the other the even one of the two
+  -- where it is, half up gives the next number, and half to even the even one of the two
   pub at-half-up : 2 * (n % d) ≡ d → halfUp n d ≡ n / d + 1
   at-half-up h = sym (half-up-high n d (n / d) (n % d) (div-add-mod' n d) (mod-lt n d0) (omega arith))
 

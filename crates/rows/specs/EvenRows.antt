@@ -1,5 +1,6 @@
 -- Request 2 of document 02: exact halves in each of the four figures that take them to the even penny, one that goes down and one that
--- goes up. The request's own figures are among the rows of document 01, and the pay-off's half among its rows.
+-- goes up. The request's own figures are among the rows of document 01, and the pay-off's half among its rows. A lump sum meets no half:
+-- both tables have the same one.
 -- Assumes nothing.
 use mathlib.Core.List.{List, [], _∷_, _++_}
 use Prim.Native.Nat.{ℕ, _+_, _*_}
@@ -9,7 +10,7 @@ use Rattle.election.specs.Price.{contributionIn, contributionOf}
 use Rattle.years.specs.Years.{yearCredit}
 use Rattle.credit.specs.Credit.{creditIn}
 use Rattle.settlement.specs.Credit.{purchaseIn, creditOf}
-use Rattle.rows.specs.Rows.{Row, _is_, only, at50, fiveYears, paidFor, missedFor, twelfthsAt, valueAt}
+use Rattle.rows.specs.Rows.{Row, _is_, only, at50, fiveYears, paidFor, missedFor, undivided, twelfthsAt, valueAt}
 
 -- the same terms with odd months
 abbrev pub oddly : ℕ → Terms → Terms
@@ -19,10 +20,6 @@ oddly m t =
 -- n ÷ d is a whole number and a half
 abbrev pub isHalf : ℕ → ℕ → ℕ → Row
 isHalf n d whole = only (2 * n) is only ((2 * whole + 1) * d)
-
--- what is left to be divided, in place of the rounded quotient
-abbrev pub undivided : ℕ → ℕ → ℕ
-undivided n d = n
 
 -- twelve times two tables' combined contributions, and twelve times their combined credits, before that is rounded
 abbrev pub contributionTwelfths : Terms → ℕ

@@ -72,9 +72,13 @@ firstYears n t = take n (yearCredits nearest (purchaseIn t (t .years)))
 abbrev pub valueAt : Terms → ℕ → ℕ
 valueAt t month = monthValue nearest (yearCredits nearest (purchaseIn t (t .years))) month
 
+-- what is to be divided, in place of the rounded quotient
+abbrev pub undivided : ℕ → ℕ → ℕ
+undivided n d = n
+
 -- twelve times that value before it is rounded
 abbrev pub twelfthsAt : Terms → ℕ → ℕ
-twelfthsAt t month = monthValue (λ n d. n) (yearCredits nearest (purchaseIn t (t .years))) month
+twelfthsAt t month = monthValue undivided (yearCredits nearest (purchaseIn t (t .years))) month
 
 -- year 1 and five paid months of the first contract; years 1 to 5, 18 paid months and the gap of the second
 unfoldable pub creditRows : List Row

@@ -1,4 +1,4 @@
--- `rounding::half_even` meets its contract: the rest, counted for one more above an odd number, is compared with what is missing.
+-- `rounding::half_even` meets its contract: the rest, counted for one more above an odd number, is compared with what is missing to the divisor.
 -- Assumes nothing.
 use mathlib.Core.Path.{_≡_, sym}
 use Prim.Native.Nat.{ℕ, _+_, _*_, _-_, _%_, _≤_, _<_, _^_}

@@ -166,7 +166,7 @@ fn pay_offs_keep_halves_up() {
     assert_eq!(paid_off, PayOff { remaining: 672_02, increased: 840_03, cost: 10_046_76, ..PayOff::default() });
 }
 
-/// With no place where halves go up, the other rule is the rule, so what it differs by elsewhere is the halves alone.
+/// With halves up at no place, `HalvesUp` gives what the rules give; so where it differs with one place, that place's halves are why.
 #[test]
 fn halves_alone_make_the_difference() {
     let mut random = Random::new(SEED);

@@ -4,7 +4,6 @@ use reference::credit::{month_value, row};
 use reference::marks::{first_bad, status};
 use reference::pay_off::{cost, increased};
 use reference::rates::{lump_sum_rate, monthly_rate, table, S};
-use reference::rounding::blend;
 use reference::samples::{self, Random};
 use reference::*;
 
@@ -46,15 +45,12 @@ fn tables_keep_the_print_rule_and_never_rise_along_a_row_or_fall_down_a_column()
     assert_eq!([15, 16, 64, 65].map(|age| lump_sum_rate(2, age)), [None, Some(1_170_00), Some(4_560_00), None]);
 }
 
-/// Puts right one thing that is wrong.
-type Mend<T> = fn(&mut T);
-
 #[test]
 fn refusals_come_in_their_order() {
     // Every field is wrong at first; each step mends the one that the refusal before it named.
     let mut terms = Terms { age: 90, pension_age_years: 64, pension_age_months: 12, option: 3, payer: 3, term: 21, amount: 1 };
     let held = 6_500_00;
-    let steps: [(u32, Mend<Terms>); 9] = [
+    let steps: [(u32, fn(&mut Terms)); 9] = [
         (1, |terms| terms.option = 1),
         (2, |terms| terms.pension_age_years = 66),
         (2, |terms| terms.pension_age_months = 11),
@@ -166,8 +162,9 @@ fn statuses() {
 #[test]
 fn odd_months_combine_whole_credits() {
     let odd = Terms { pension_age_years: 66, pension_age_months: 5, term: 4, age: 60, option: 1, amount: 1_500, ..TERMS };
-    let credits = [66, 67].map(|pension_age| month_value(&row(&odd, pension_age), 9));
-    assert_eq!(settle(&odd, &[1; 9]).credit, blend(5, credits[0], credits[1]));
+    // Two halves, of which one goes up and one down, and then 371,008 twelfths of a penny.
+    assert_eq!([66, 67].map(|pension_age| month_value(&row(&odd, pension_age), 9)), [309_14, 309_22]);
+    assert_eq!(settle(&odd, &[1; 9]).credit, 309_17);
 }
 
 #[test]
@@ -244,7 +241,7 @@ fn pay_off_refusals_come_in_their_order() {
         age_now: 65,
         increase: 999,
     };
-    let steps: [(u32, u32, Mend<Asked>); 16] = [
+    let steps: [(u32, u32, fn(&mut Asked)); 16] = [
         (1, 0, |asked| asked.terms.option = 1),
         (2, 0, |asked| asked.terms.pension_age_years = 66),
         (2, 0, |asked| asked.terms.pension_age_months = 11),

@@ -16,7 +16,7 @@ cast-blend-2 c = search needs
 blend-requires : tie.Need-blend-requires
 blend-requires c κs = search needs
 
--- opened, so that a blend by another rounding is refused for its rounding alone
+-- opened, so that the promise of a blend by another rounding is refused for the rounding alone
 returns : tie.Need-returns
 unfolding blend
 returns c = ap contribution (c .blend .ensures)
