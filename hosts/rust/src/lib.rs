@@ -3,6 +3,9 @@
 //! The figures come from a static library whose three functions are proved to keep the scheme's rules for every input. This
 //! crate only puts Rust's types around them: it checks nothing, rounds nothing and refuses nothing of its own.
 //!
+//! The library rounds to the nearest penny. An exact half goes to the even penny in a contribution, a whole-year credit, the value
+//! at a month and the combined credits of two tables; it goes up in the increased pension and the cost of a pay-off.
+//!
 //! ```
 //! use additional_pension::{pay_off, settle, Payer, PensionAge, PensionOption, Status, Terms, PAID};
 //!
