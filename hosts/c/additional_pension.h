@@ -9,9 +9,9 @@
  * writes them during the call, and the pieces lent to one call do not overlap. A piece needs no alignment. A pointer is not
  * null, also where its length is 0.
  *
- * Money is in whole pence. Each rounding is to the nearest penny. An exact half goes to the even penny in a contribution, a
- * whole-year credit, the value at a month and the combined credits of two tables; it goes up in the increased pension and the
- * cost of a pay-off.
+ * Money in the results is in whole pence, each rounding to the nearest. An exact half goes to the even penny in a contribution,
+ * a whole-year credit, the value at a month and the combined credits of two tables; it goes up in the increased pension and
+ * the cost of a pay-off.
  */
 #ifndef ADDITIONAL_PENSION_H
 #define ADDITIONAL_PENSION_H

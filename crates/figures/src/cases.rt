@@ -255,5 +255,5 @@ pub const HALVES: [u64; 214] = [
     SETTLE, 50, 65,  0, 2, 1, 2, 1000, 1,  1, 0, 5, 1, 1, 0, 0, // a run from 25,680.5 on: the credit is a penny more than with a half up
     SETTLE, 50, 65,  6, 2, 1, 2, 1000, 1,  1, 0, 0, 0, 0, 0, 0, // both tables, 4,278.5: down
     SETTLE, 50, 65, 10, 2, 1, 2, 1000, 1,  1, 0, 0, 0, 0, 0, 0, // 4,277.5: up
-    PAY_OFF, 50, 65, 0, 2, 1, 5, 1000, 1, 18, 0, 0, 0, 0, 0, 0, 51, 1250, // increased pension, 84,002.5: up, here as ever
+    PAY_OFF, 50, 65, 0, 2, 1, 5, 1000, 1, 18, 0, 0, 0, 0, 0, 0, 51, 1250, // increased pension, 84,002.5: up, by the pay-off's own rule
 ];

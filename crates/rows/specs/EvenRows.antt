@@ -21,7 +21,7 @@ oddly m t =
 abbrev pub isHalf : ℕ → ℕ → ℕ → Row
 isHalf n d whole = only (2 * n) is only ((2 * whole + 1) * d)
 
--- twelve times two tables' combined contributions, and twelve times their combined credits, before that is rounded
+-- twelve times two tables' combined contributions, and twelve times their combined credits, before they are rounded
 abbrev pub contributionTwelfths : Terms → ℕ
 contributionTwelfths t = combineBy undivided (t .months) (contributionIn t (t .years)) (contributionIn t (t .years + 1))
 
@@ -40,7 +40,7 @@ evenContributions =
     ∷ (only (contributionOf (oddly 7 (at50 65 4 750))) is only 21538)
     ∷ []
 
--- a whole-year credit that is rounded from n ÷ the rate
+-- year n: what is divided by the rate for n is so many pence and a half, and the credit is as stated
 abbrev pub yearRows : Terms → ℕ → (whole stated : ℕ) → List Row
 yearRows t n whole stated =
     let p = purchaseIn t (t .years) in
