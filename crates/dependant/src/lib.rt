@@ -3,38 +3,40 @@
 ghost use mathlib.Core.Path.{_≡_};
 ghost use Rattle.rates.specs.Dependant.{d65, d66, d67, d68};
 ghost use Rattle.rates.specs.Rates.{cellOf, rateOf};
+ghost use Rattle.lookup.specs.Tenths.{pence, tableInPence};
 use lookup::column;
+use lookup::in_pence;
 use lookup::no_term;
 
 mod tables;
 
-fn table_65() -> [u32; 1020]
-    ensures { λ r. ⌜ r ≡ d65 ⌝ }
+fn table_65() -> [u16; 1020]
+    ensures { λ r. ⌜ tableInPence r ≡ d65 ⌝ }
 {
     tables::D65
 }
 
-fn table_66() -> [u32; 1020]
-    ensures { λ r. ⌜ r ≡ d66 ⌝ }
+fn table_66() -> [u16; 1020]
+    ensures { λ r. ⌜ tableInPence r ≡ d66 ⌝ }
 {
     tables::D66
 }
 
-fn table_67() -> [u32; 1020]
-    ensures { λ r. ⌜ r ≡ d67 ⌝ }
+fn table_67() -> [u16; 1020]
+    ensures { λ r. ⌜ tableInPence r ≡ d67 ⌝ }
 {
     tables::D67
 }
 
-fn table_68() -> [u32; 1020]
-    ensures { λ r. ⌜ r ≡ d68 ⌝ }
+fn table_68() -> [u16; 1020]
+    ensures { λ r. ⌜ tableInPence r ≡ d68 ⌝ }
 {
     tables::D68
 }
 
 // The entry for an age and a term. Each table has a function of its own, which is called in one place: there it is inlined, and the
 // constant dissolves into what the arms read. The parameter has the table's number, so that no arm reads like another table's.
-fn entry_65(t65: &[u32; 1020], age: u32, term: u32) -> u32
+fn entry_65(t65: &[u16; 1020], age: u32, term: u32) -> u16
     ensures { λ r. ⌜ r ≡ cellOf (now (t65 .entry)) age term ⌝ }
 {
     match term {
@@ -62,7 +64,7 @@ fn entry_65(t65: &[u32; 1020], age: u32, term: u32) -> u32
     }
 }
 
-fn entry_66(t66: &[u32; 1020], age: u32, term: u32) -> u32
+fn entry_66(t66: &[u16; 1020], age: u32, term: u32) -> u16
     ensures { λ r. ⌜ r ≡ cellOf (now (t66 .entry)) age term ⌝ }
 {
     match term {
@@ -90,7 +92,7 @@ fn entry_66(t66: &[u32; 1020], age: u32, term: u32) -> u32
     }
 }
 
-fn entry_67(t67: &[u32; 1020], age: u32, term: u32) -> u32
+fn entry_67(t67: &[u16; 1020], age: u32, term: u32) -> u16
     ensures { λ r. ⌜ r ≡ cellOf (now (t67 .entry)) age term ⌝ }
 {
     match term {
@@ -118,7 +120,7 @@ fn entry_67(t67: &[u32; 1020], age: u32, term: u32) -> u32
     }
 }
 
-fn entry_68(t68: &[u32; 1020], age: u32, term: u32) -> u32
+fn entry_68(t68: &[u16; 1020], age: u32, term: u32) -> u16
     ensures { λ r. ⌜ r ≡ cellOf (now (t68 .entry)) age term ⌝ }
 {
     match term {
@@ -146,9 +148,10 @@ fn entry_68(t68: &[u32; 1020], age: u32, term: u32) -> u32
     }
 }
 
-// The monthly rate; 0 where none is printed. The range tests stand before the matches and give 0 themselves, or a list would be built.
-pub fn monthly_rate(pension_age: u32, age: u32, term: u32) -> u32
-    ensures { λ r. ⌜ r ≡ rateOf 2 «pension_age» age term ⌝ }
+// The monthly rate in tenths of a pound; 0 where none is printed. The range tests stand before the matches and give 0 themselves, or a
+// list would be built.
+fn monthly_tenths(pension_age: u32, age: u32, term: u32) -> u16
+    ensures { λ r. ⌜ pence r ≡ rateOf 2 «pension_age» age term ⌝ }
 {
     if age < 16 {
         return 0;
@@ -169,4 +172,11 @@ pub fn monthly_rate(pension_age: u32, age: u32, term: u32) -> u32
         68 => entry_68(&table_68(), age, term),
         _ => 0,
     }
+}
+
+// The monthly rate in pence; 0 where none is printed.
+pub fn monthly_rate(pension_age: u32, age: u32, term: u32) -> u32
+    ensures { λ r. ⌜ r ≡ rateOf 2 «pension_age» age term ⌝ }
+{
+    in_pence(monthly_tenths(pension_age, age, term))
 }

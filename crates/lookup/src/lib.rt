@@ -1,13 +1,15 @@
 // The entry of a monthly table for an age and a term, by matches whose arms each read one fixed place. Where the table is a constant, no
 // list of it is built: the machine code has the entries as read-only data. An arm says which age or term it is for, the function that it
-// calls asks that it is so, and all promise the same entry: so the matches need no proof of their own.
+// calls asks that it is so, and all promise the same entry: so the matches need no proof of their own. The tables hold tenths of a pound
+// in 16 bits, and a rate is made pence once, as it leaves.
 ghost use mathlib.Core.Path.{_≡_};
 ghost use Prim.Native.Nat.{_+_, _<_};
 ghost use Rattle.rates.specs.Rates.{cellOf};
 ghost use Rattle.common.specs.Keys.{NoneOf};
+ghost use Rattle.lookup.specs.Tenths.{pence};
 
 // The entry at a place of a line, of which it is known what age and what term they are for.
-fn cell(table: &[u32; 1020], line: usize, place: usize, age: u32, term: u32) -> u32
+fn cell(table: &[u16; 1020], line: usize, place: usize, age: u32, term: u32) -> u16
     requires { ⌜ (line < 51) × (place < 20) × (age ≡ 16 + line) × (term ≡ 1 + place) ⌝ }
     ensures { λ r. ⌜ r ≡ cellOf (now (table .entry)) age term ⌝ }
 {
@@ -15,7 +17,7 @@ fn cell(table: &[u32; 1020], line: usize, place: usize, age: u32, term: u32) -> 
 }
 
 // No table has a line for another age,
-fn no_age(table: &[u32; 1020], age: u32, term: u32) -> u32
+fn no_age(table: &[u16; 1020], age: u32, term: u32) -> u16
     requires { ⌜ NoneOf 16 51 age ⌝ }
     ensures { λ r. ⌜ r ≡ cellOf (now (table .entry)) age term ⌝ }
 {
@@ -23,7 +25,7 @@ fn no_age(table: &[u32; 1020], age: u32, term: u32) -> u32
 }
 
 // and none has a place in its lines for another term.
-pub fn no_term(table: &[u32; 1020], age: u32, term: u32) -> u32
+pub fn no_term(table: &[u16; 1020], age: u32, term: u32) -> u16
     requires { ⌜ NoneOf 1 20 term ⌝ }
     ensures { λ r. ⌜ r ≡ cellOf (now (table .entry)) age term ⌝ }
 {
@@ -31,7 +33,7 @@ pub fn no_term(table: &[u32; 1020], age: u32, term: u32) -> u32
 }
 
 // The entry for an age at the place of a term in every line: a column of the table.
-pub fn column(table: &[u32; 1020], place: usize, age: u32, term: u32) -> u32
+pub fn column(table: &[u16; 1020], place: usize, age: u32, term: u32) -> u16
     requires { ⌜ (place < 20) × (term ≡ 1 + place) ⌝ }
     ensures { λ r. ⌜ r ≡ cellOf (now (table .entry)) age term ⌝ }
 {
@@ -89,4 +91,11 @@ pub fn column(table: &[u32; 1020], place: usize, age: u32, term: u32) -> u32
         66 => cell(table, 50, place, age, term),
         _ => no_age(table, age, term),
     }
+}
+
+// A rate in tenths of a pound, in pence: widened first, so that any 16-bit number of tenths has its pence.
+pub fn in_pence(tenths: u16) -> u32
+    ensures { λ r. ⌜ r ≡ pence tenths ⌝ }
+{
+    tenths as u32 * 10
 }

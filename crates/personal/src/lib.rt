@@ -2,38 +2,40 @@
 ghost use mathlib.Core.Path.{_≡_};
 ghost use Rattle.rates.specs.Personal.{p65, p66, p67, p68};
 ghost use Rattle.rates.specs.Rates.{cellOf, rateOf};
+ghost use Rattle.lookup.specs.Tenths.{pence, tableInPence};
 use lookup::column;
+use lookup::in_pence;
 use lookup::no_term;
 
 mod tables;
 
-fn table_65() -> [u32; 1020]
-    ensures { λ r. ⌜ r ≡ p65 ⌝ }
+fn table_65() -> [u16; 1020]
+    ensures { λ r. ⌜ tableInPence r ≡ p65 ⌝ }
 {
     tables::P65
 }
 
-fn table_66() -> [u32; 1020]
-    ensures { λ r. ⌜ r ≡ p66 ⌝ }
+fn table_66() -> [u16; 1020]
+    ensures { λ r. ⌜ tableInPence r ≡ p66 ⌝ }
 {
     tables::P66
 }
 
-fn table_67() -> [u32; 1020]
-    ensures { λ r. ⌜ r ≡ p67 ⌝ }
+fn table_67() -> [u16; 1020]
+    ensures { λ r. ⌜ tableInPence r ≡ p67 ⌝ }
 {
     tables::P67
 }
 
-fn table_68() -> [u32; 1020]
-    ensures { λ r. ⌜ r ≡ p68 ⌝ }
+fn table_68() -> [u16; 1020]
+    ensures { λ r. ⌜ tableInPence r ≡ p68 ⌝ }
 {
     tables::P68
 }
 
 // The entry for an age and a term. Each table has a function of its own, which is called in one place: there it is inlined, and the
 // constant dissolves into what the arms read. The parameter has the table's number, so that no arm reads like another table's.
-fn entry_65(t65: &[u32; 1020], age: u32, term: u32) -> u32
+fn entry_65(t65: &[u16; 1020], age: u32, term: u32) -> u16
     ensures { λ r. ⌜ r ≡ cellOf (now (t65 .entry)) age term ⌝ }
 {
     match term {
@@ -61,7 +63,7 @@ fn entry_65(t65: &[u32; 1020], age: u32, term: u32) -> u32
     }
 }
 
-fn entry_66(t66: &[u32; 1020], age: u32, term: u32) -> u32
+fn entry_66(t66: &[u16; 1020], age: u32, term: u32) -> u16
     ensures { λ r. ⌜ r ≡ cellOf (now (t66 .entry)) age term ⌝ }
 {
     match term {
@@ -89,7 +91,7 @@ fn entry_66(t66: &[u32; 1020], age: u32, term: u32) -> u32
     }
 }
 
-fn entry_67(t67: &[u32; 1020], age: u32, term: u32) -> u32
+fn entry_67(t67: &[u16; 1020], age: u32, term: u32) -> u16
     ensures { λ r. ⌜ r ≡ cellOf (now (t67 .entry)) age term ⌝ }
 {
     match term {
@@ -117,7 +119,7 @@ fn entry_67(t67: &[u32; 1020], age: u32, term: u32) -> u32
     }
 }
 
-fn entry_68(t68: &[u32; 1020], age: u32, term: u32) -> u32
+fn entry_68(t68: &[u16; 1020], age: u32, term: u32) -> u16
     ensures { λ r. ⌜ r ≡ cellOf (now (t68 .entry)) age term ⌝ }
 {
     match term {
@@ -145,9 +147,10 @@ fn entry_68(t68: &[u32; 1020], age: u32, term: u32) -> u32
     }
 }
 
-// The monthly rate; 0 where none is printed. The range tests stand before the matches and give 0 themselves, or a list would be built.
-pub fn monthly_rate(pension_age: u32, age: u32, term: u32) -> u32
-    ensures { λ r. ⌜ r ≡ rateOf 1 «pension_age» age term ⌝ }
+// The monthly rate in tenths of a pound; 0 where none is printed. The range tests stand before the matches and give 0 themselves, or a
+// list would be built.
+fn monthly_tenths(pension_age: u32, age: u32, term: u32) -> u16
+    ensures { λ r. ⌜ pence r ≡ rateOf 1 «pension_age» age term ⌝ }
 {
     if age < 16 {
         return 0;
@@ -168,4 +171,11 @@ pub fn monthly_rate(pension_age: u32, age: u32, term: u32) -> u32
         68 => entry_68(&table_68(), age, term),
         _ => 0,
     }
+}
+
+// The monthly rate in pence; 0 where none is printed.
+pub fn monthly_rate(pension_age: u32, age: u32, term: u32) -> u32
+    ensures { λ r. ⌜ r ≡ rateOf 1 «pension_age» age term ⌝ }
+{
+    in_pence(monthly_tenths(pension_age, age, term))
 }

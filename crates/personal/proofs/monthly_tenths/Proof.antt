@@ -1,11 +1,12 @@
--- `dependant::monthly_rate` meets its contract: each pension age has its table, and any other has no rates.
+-- `personal::monthly_tenths` meets its contract: each pension age has its table, and any other has no rates.
 -- Assumes nothing.
 use native.Mathlib.Omega.{arith}
 use borrow.Author.Needs.{needs}
 use Rattle.rates.specs.Rates.{tableOf}
-use Rattle.rates.proofs.Lookups.{rate-chosen, rate-out, rate-no-table}
-use Rattle.dependant.proofs.monthly_rate.Statement.{statement}
-use Rattle.dependant.proofs.monthly_rate.Tie as tie
+use Rattle.rates.proofs.Lookups.{rate-out, rate-no-table}
+use Rattle.lookup.proofs.Tenths.{tenths-chosen}
+use Rattle.personal.proofs.monthly_tenths.Statement.{statement}
+use Rattle.personal.proofs.monthly_tenths.Tie as tie
 
 returns : tie.Need-returns
 returns c = rate-out _ _ _ _ (λ placed. omega arith)
@@ -45,25 +46,25 @@ entry-68-requires c κs = search needs
 
 returns-5 : tie.Need-returns-5
 unfolding tableOf
-returns-5 c = rate-chosen 2 65 _ _ (c .before .before .before .match .keys1) (c .before .before .table-65 .ensures) (c .entry-65 .ensures)
+returns-5 c = tenths-chosen _ 1 65 _ _ (c .before .before .before .match .keys1) (c .before .before .table-65 .ensures) (c .entry-65 .ensures)
 
 returns-6 : tie.Need-returns-6
 unfolding tableOf
-returns-6 c = rate-chosen 2 66 _ _ (c .before .before .before .match .keys2) (c .before .before .table-66 .ensures) (c .entry-66 .ensures)
+returns-6 c = tenths-chosen _ 1 66 _ _ (c .before .before .before .match .keys2) (c .before .before .table-66 .ensures) (c .entry-66 .ensures)
 
 returns-7 : tie.Need-returns-7
 unfolding tableOf
-returns-7 c = rate-chosen 2 67 _ _ (c .before .before .before .match .keys3) (c .before .before .table-67 .ensures) (c .entry-67 .ensures)
+returns-7 c = tenths-chosen _ 1 67 _ _ (c .before .before .before .match .keys3) (c .before .before .table-67 .ensures) (c .entry-67 .ensures)
 
 returns-8 : tie.Need-returns-8
 unfolding tableOf
-returns-8 c = rate-chosen 2 68 _ _ (c .before .before .before .match .keys4) (c .before .before .table-68 .ensures) (c .entry-68 .ensures)
+returns-8 c = tenths-chosen _ 1 68 _ _ (c .before .before .before .match .keys4) (c .before .before .table-68 .ensures) (c .entry-68 .ensures)
 
 returns-9 : tie.Need-returns-9
 returns-9 c = rate-no-table _ _ _ _ (λ known. omega arith)
 
-pub monthly-rate-spec : {M : Type 1} → statement M
-monthly-rate-spec =
+pub monthly-tenths-spec : {M : Type 1} → statement M
+monthly-tenths-spec =
     tie.close
     (tie.spec
     returns
