@@ -1,5 +1,5 @@
-// The monthly tables of pension with dependant's pension, option 2, as the code holds them, and the rate for a pension age, an age
-// and a term.
+// The monthly tables of pension with dependant's pension, option 2, as the code holds them, in tenths of a pound and 16 bits, and the rate
+// in pence for a pension age, an age and a term.
 ghost use mathlib.Core.Path.{_≡_};
 ghost use Rattle.rates.specs.Dependant.{d65, d66, d67, d68};
 ghost use Rattle.rates.specs.Rates.{cellOf, rateOf};

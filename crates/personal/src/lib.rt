@@ -1,4 +1,5 @@
-// The monthly tables of personal pension, option 1, as the code holds them, and the rate for a pension age, an age and a term.
+// The monthly tables of personal pension, option 1, as the code holds them, in tenths of a pound and 16 bits, and the rate in pence for a
+// pension age, an age and a term.
 ghost use mathlib.Core.Path.{_≡_};
 ghost use Rattle.rates.specs.Personal.{p65, p66, p67, p68};
 ghost use Rattle.rates.specs.Rates.{cellOf, rateOf};
