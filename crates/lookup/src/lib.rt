@@ -1,12 +1,12 @@
 // The entry of a monthly table for an age and a term, by matches whose arms each read one fixed place. Where the table is a constant, no
 // list of it is built: the machine code has the entries as read-only data. An arm says which age or term it is for, the function that it
-// calls asks that it is so, and all promise the same entry: so the matches need no proof of their own. The tables hold tenths of a pound
-// in 16 bits, and a rate is made pence once, as it leaves.
+// calls asks that it is so, and all promise the same entry: so the matches need no proof of their own. The tables hold 16-bit tenths of a
+// pound, and a rate is made pence once, as it leaves.
 ghost use mathlib.Core.Path.{_≡_};
 ghost use Prim.Native.Nat.{_+_, _<_};
 ghost use Rattle.rates.specs.Rates.{cellOf};
 ghost use Rattle.common.specs.Keys.{NoneOf};
-ghost use Rattle.lookup.specs.Tenths.{pence};
+ghost use Rattle.lookup.specs.Tenths.{inPence};
 
 // The entry at a place of a line, of which it is known what age and what term they are for.
 fn cell(table: &[u16; 1020], line: usize, place: usize, age: u32, term: u32) -> u16
@@ -95,7 +95,7 @@ pub fn column(table: &[u16; 1020], place: usize, age: u32, term: u32) -> u16
 
 // A rate in tenths of a pound, in pence: widened first, so that any 16-bit number of tenths has its pence.
 pub fn in_pence(tenths: u16) -> u32
-    ensures { λ r. ⌜ r ≡ pence tenths ⌝ }
+    ensures { λ r. ⌜ r ≡ inPence tenths ⌝ }
 {
     tenths as u32 * 10
 }

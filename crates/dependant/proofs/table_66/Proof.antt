@@ -1,4 +1,4 @@
--- `dependant::table_66` meets its contract: the constant is the list, number by number.
+-- `dependant::table_66` meets its contract: the constant made pence is the list, number by number.
 -- Assumes nothing.
 use borrow.Author.Needs.{needs}
 use Rattle.dependant.proofs.table_66.Statement.{statement}

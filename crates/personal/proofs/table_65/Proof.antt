@@ -1,4 +1,4 @@
--- `personal::table_65` meets its contract: the constant is the list, number by number.
+-- `personal::table_65` meets its contract: the constant made pence is the list, number by number.
 -- Assumes nothing.
 use borrow.Author.Needs.{needs}
 use Rattle.personal.proofs.table_65.Statement.{statement}
