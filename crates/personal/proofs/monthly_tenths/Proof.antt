@@ -3,22 +3,10 @@
 use native.Mathlib.Omega.{arith}
 use borrow.Author.Needs.{needs}
 use Rattle.rates.specs.Rates.{tableOf}
-use Rattle.rates.proofs.Lookups.{rate-out, rate-no-table}
+use Rattle.rates.proofs.Lookups.{rate-no-table}
 use Rattle.lookup.proofs.Tenths.{tenths-chosen}
 use Rattle.personal.proofs.monthly_tenths.Statement.{statement}
 use Rattle.personal.proofs.monthly_tenths.Tie as tie
-
-returns : tie.Need-returns
-returns c = rate-out _ _ _ _ (λ placed. omega arith)
-
-returns-2 : tie.Need-returns-2
-returns-2 c = rate-out _ _ _ _ (λ placed. omega arith)
-
-returns-3 : tie.Need-returns-3
-returns-3 c = rate-out _ _ _ _ (λ placed. omega arith)
-
-returns-4 : tie.Need-returns-4
-returns-4 c = rate-out _ _ _ _ (λ placed. omega arith)
 
 table-65-requires : tie.Need-table-65-requires
 table-65-requires c κs = search needs
@@ -44,33 +32,29 @@ table-68-requires c κs = search needs
 entry-68-requires : tie.Need-entry-68-requires
 entry-68-requires c κs = search needs
 
+returns : tie.Need-returns
+unfolding tableOf
+returns c = tenths-chosen _ 1 65 _ _ (c .before .before .before .match .keys1) (c .before .before .table-65 .ensures) (c .entry-65 .ensures)
+
+returns-2 : tie.Need-returns-2
+unfolding tableOf
+returns-2 c = tenths-chosen _ 1 66 _ _ (c .before .before .before .match .keys2) (c .before .before .table-66 .ensures) (c .entry-66 .ensures)
+
+returns-3 : tie.Need-returns-3
+unfolding tableOf
+returns-3 c = tenths-chosen _ 1 67 _ _ (c .before .before .before .match .keys3) (c .before .before .table-67 .ensures) (c .entry-67 .ensures)
+
+returns-4 : tie.Need-returns-4
+unfolding tableOf
+returns-4 c = tenths-chosen _ 1 68 _ _ (c .before .before .before .match .keys4) (c .before .before .table-68 .ensures) (c .entry-68 .ensures)
+
 returns-5 : tie.Need-returns-5
-unfolding tableOf
-returns-5 c = tenths-chosen _ 1 65 _ _ (c .before .before .before .match .keys1) (c .before .before .table-65 .ensures) (c .entry-65 .ensures)
-
-returns-6 : tie.Need-returns-6
-unfolding tableOf
-returns-6 c = tenths-chosen _ 1 66 _ _ (c .before .before .before .match .keys2) (c .before .before .table-66 .ensures) (c .entry-66 .ensures)
-
-returns-7 : tie.Need-returns-7
-unfolding tableOf
-returns-7 c = tenths-chosen _ 1 67 _ _ (c .before .before .before .match .keys3) (c .before .before .table-67 .ensures) (c .entry-67 .ensures)
-
-returns-8 : tie.Need-returns-8
-unfolding tableOf
-returns-8 c = tenths-chosen _ 1 68 _ _ (c .before .before .before .match .keys4) (c .before .before .table-68 .ensures) (c .entry-68 .ensures)
-
-returns-9 : tie.Need-returns-9
-returns-9 c = rate-no-table _ _ _ _ (λ known. omega arith)
+returns-5 c = rate-no-table _ _ _ _ (λ known. omega arith)
 
 pub monthly-tenths-spec : {M : Type 1} → statement M
 monthly-tenths-spec =
     tie.close
     (tie.spec
-    returns
-    returns-2
-    returns-3
-    returns-4
     table-65-requires
     entry-65-requires
     table-66-requires
@@ -79,8 +63,8 @@ monthly-tenths-spec =
     entry-67-requires
     table-68-requires
     entry-68-requires
-    returns-5
-    returns-6
-    returns-7
-    returns-8
-    returns-9)
+    returns
+    returns-2
+    returns-3
+    returns-4
+    returns-5)
