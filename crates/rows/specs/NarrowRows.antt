@@ -7,7 +7,7 @@ use Rattle.terms.specs.declared.Terms.{Terms}
 use Rattle.election.specs.Price.{contributionOf}
 use Rattle.rows.specs.Rows.{Row, _is_, only}
 
--- the whole cap over one year from age 63, with dependant's pension: D65 has its only rate of that age there
+-- the whole cap from age 63, with dependant's pension, over one year: the one term for which D65 has a rate at that age
 abbrev pub greatest : Terms
 greatest = record { age = 63; years = 65; months = 0; option = 2; payer = 1; term = 1; amount = 6500 }
 

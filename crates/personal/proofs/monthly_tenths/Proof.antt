@@ -34,19 +34,23 @@ entry-68-requires c κs = search needs
 
 returns : tie.Need-returns
 unfolding tableOf
-returns c = tenths-chosen _ 1 65 _ _ (c .before .before .before .match .keys1) (c .before .before .table-65 .ensures) (c .entry-65 .ensures)
+returns c =
+    tenths-chosen _ 1 65 _ _ (c .before .before .before .match .keys1) (c .before .before .table-65 .ensures) (c .entry-65 .ensures)
 
 returns-2 : tie.Need-returns-2
 unfolding tableOf
-returns-2 c = tenths-chosen _ 1 66 _ _ (c .before .before .before .match .keys2) (c .before .before .table-66 .ensures) (c .entry-66 .ensures)
+returns-2 c =
+    tenths-chosen _ 1 66 _ _ (c .before .before .before .match .keys2) (c .before .before .table-66 .ensures) (c .entry-66 .ensures)
 
 returns-3 : tie.Need-returns-3
 unfolding tableOf
-returns-3 c = tenths-chosen _ 1 67 _ _ (c .before .before .before .match .keys3) (c .before .before .table-67 .ensures) (c .entry-67 .ensures)
+returns-3 c =
+    tenths-chosen _ 1 67 _ _ (c .before .before .before .match .keys3) (c .before .before .table-67 .ensures) (c .entry-67 .ensures)
 
 returns-4 : tie.Need-returns-4
 unfolding tableOf
-returns-4 c = tenths-chosen _ 1 68 _ _ (c .before .before .before .match .keys4) (c .before .before .table-68 .ensures) (c .entry-68 .ensures)
+returns-4 c =
+    tenths-chosen _ 1 68 _ _ (c .before .before .before .match .keys4) (c .before .before .table-68 .ensures) (c .entry-68 .ensures)
 
 returns-5 : tie.Need-returns-5
 returns-5 c = rate-no-table _ _ _ _ (λ known. omega arith)
