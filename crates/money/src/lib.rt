@@ -35,6 +35,13 @@ impl PensionPence {
         PensionPence(pounds as u64 * 100)
     }
 
+    // A quotient of pence, a half penny going up; nothing where the divisor is 0.
+    pub fn of_quotient(pence: u64, divisor: u64) -> Self
+        ensures { λ r. ⌜ r ≡ pension (halfUp pence divisor) ⌝ }
+    {
+        PensionPence(rounding::half_up(pence, divisor))
+    }
+
     pub fn plus(self, other: PensionPence) -> Self
         requires { ⌜ self .0 + other .0 < 2 ^ 64 ⌝ }
         ensures { λ r. ⌜ r ≡ pension (self .0 + other .0) ⌝ }

@@ -1,4 +1,3 @@
-mod Walk
 pub mod Entries
 pub mod Tables
 pub mod Lookups

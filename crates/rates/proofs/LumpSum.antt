@@ -10,7 +10,7 @@ use lib.ListN.{getD}
 use borrow.Author.Tests.{eqb-true, ltb-true, ltb-false, le-ltb}
 use Rattle.common.proofs.Tests.{by-test}
 use Rattle.rates.specs.Rates.{lumpColumn, lumpRateOf, LumpPrinted}
-use Rattle.rates.proofs.Walk.{Rule, always, given, Hold, passes, hold, all, all-at}
+use Rattle.common.proofs.Computed.{Rule, always, given, Hold, passes, hold, all, all-at}
 use Rattle.rates.proofs.Entries.{above-0}
 
 -- above £250, at most £4,560, in tens of pounds, never less a year later, and less without than with dependant's pension

@@ -12,7 +12,7 @@ use lib.ListN.{length, getD}
 use lib.Seq.{getD-drop}
 use Rattle.common.proofs.Tests.{and-left, and-right}
 use Rattle.rates.specs.Rates.{tableOf, rateOf}
-use Rattle.rates.proofs.Walk.{Rule, always, given, Hold, every, every-at, all, all-at}
+use Rattle.common.proofs.Computed.{Rule, always, given, Hold, every, every-at, all, all-at}
 use Rattle.rates.proofs.Entries.{Placed, place, entry-at, entry-placed, entry-none}
 use Rattle.rates.proofs.Tables.{Known, known-or-empty}
 

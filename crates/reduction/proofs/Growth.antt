@@ -1,0 +1,44 @@
+-- Up to 45 years the power is at most 1.954213015 and lies within 2 billionths of the exact one: a test computed over all those years,
+-- carried to each. So it lies within the 32 of document 02.
+-- Assumes nothing.
+use mathlib.Core.List.{List, [], _∷_}
+use mathlib.Core.Path.{_≡_}
+use Prim.Native.Nat.{ℕ, _+_, _*_, _^_, _≤_}
+use native.Mathlib.Nat.{one-le-pow}
+use native.Mathlib.Numerals.{add-one}
+use native.Mathlib.Omega.{arith}
+use lib.Dec.{T}
+use Rattle.common.proofs.Computed.{Rule, always, Hold, passes, hold, all, all-at}
+use Rattle.rounding.specs.Nearest.{halfUp}
+use Rattle.reduction.specs.Power.{billion, powerOf, NearPower}
+use Rattle.reduction.proofs.Near.{near-wider}
+
+-- at most the power of 45 years; near from above and from below
+abbrev rules-of : ℕ → List Rule
+rules-of n =
+    always (powerOf n) 1954213015
+    ∷ always (powerOf n * 1000 ^ n) (billion * 1015 ^ n + 2 * 1000 ^ n)
+    ∷ always (billion * 1015 ^ n) ((powerOf n + 2) * 1000 ^ n)
+    ∷ []
+
+years-pass : T (all (λ (n : ℕ). passes (rules-of n)) 0 46)
+unfolding powerOf halfUp
+years-pass = tt
+
+-- one year more
+pub power-more : (n p : ℕ) → p ≡ powerOf n → halfUp (p * 1015) 1000 ≡ powerOf (n + 1)
+unfolding powerOf
+power-more n p e = rw (e, add-one)
+
+module _ (n : ℕ) (few : n ≤ 45) where
+  rules : Hold (rules-of n)
+  rules = hold (rules-of n) (all-at (λ (n : ℕ). passes (rules-of n)) 0 46 years-pass n (omega arith) (omega arith))
+
+  pub power-most : powerOf n ≤ 1954213015
+  power-most = rules .0
+
+  pub power-close : NearPower 2 n (powerOf n)
+  power-close = record { real = one-le-pow n 1000 (omega arith); above = rules .1 .0; below = rules .1 .1 .0 }
+
+  pub power-near : NearPower 32 n (powerOf n)
+  power-near = near-wider (omega arith) power-close

@@ -1,0 +1,12 @@
+pub mod Near
+pub mod Growth
+pub mod Distance
+pub mod Range
+pub mod Headroom
+pub mod Compared
+pub mod Candidates
+pub mod Earliest
+pub mod Answers
+pub mod Searching
+pub mod Told
+pub mod Bounds

@@ -1,0 +1,105 @@
+-- What holds of every reduction limit.
+-- Assumes nothing.
+use mathlib.Core.Bool.{Bool, true, false, _&&_}
+use mathlib.Core.Logic.{_⊎_, inl, inr, ⊎-elim}
+use mathlib.Core.Path.{_≡_, refl, sym, ap, subst, _∙_}
+use Prim.Native.Nat.{ℕ, zero, suc, _≤_, _<_}
+use native.Mathlib.Omega.{arith}
+use lib.Dec.{leb, eqb}
+use borrow.Author.Tests.{eqb-true, leb-true, eq-eqb, le-leb, le-ltb}
+use Rattle.common.proofs.Tests.{by-test, or-true}
+use Rattle.reduction.specs.declared.Application.{Application}
+use Rattle.reduction.specs.Range.{outOfRange, InRange}
+use Rattle.reduction.specs.Search.{candidateOf, potentialAt, takesAt, belowNpa, searchFrom, earliestAge}
+use Rattle.reduction.specs.Limit.{LimitNumbers, shownOf, refusedLimit, reductionLimitOf}
+use Rattle.reduction.specs.Told.{EarliestPassing, NonePassing, givenFor, Shown, RefusedLimitTold, FoundTold}
+use Rattle.reduction.proofs.Range.{in-range, not-out}
+use Rattle.reduction.proofs.Headroom.{takes-none}
+use Rattle.reduction.proofs.Candidates.{below-npa, is-below, first-below, near-at}
+use Rattle.reduction.proofs.Earliest.{given-earliest, none-given, given-none}
+
+module _ (a : Application) where
+  abbrev answer : LimitNumbers
+  answer = reductionLimitOf a
+
+  -- out of range
+  pub refused : outOfRange a ≡ true → answer ≡ refusedLimit
+  unfolding reductionLimitOf
+  refused e = rw e
+
+  -- an answer that is no refusal
+  fine : answer .refusal ≡ 0 → outOfRange a ≡ false
+  unfolding reductionLimitOf
+  fine z = by-test (outOfRange a) (λ e. absurd (eighteen (rw e at z))) (λ e. e)
+    where
+      eighteen : (_≡_ {A = ℕ} 18 0) → ⊥
+      eighteen e = omega arith
+
+  -- in range
+  module _ (in-it : outOfRange a ≡ false) where
+    no-refusal : answer .refusal ≡ 0
+    unfolding reductionLimitOf
+    no-refusal = rw in-it
+
+    age-is : answer .age ≡ earliestAge a
+    unfolding reductionLimitOf
+    age-is = rw in-it
+
+    given-is : (k : ℕ) → k < 3 → givenFor answer k ≡ shownOf a k
+    unfolding reductionLimitOf
+    given-is zero h = rw in-it
+    given-is (suc zero) h = rw in-it
+    given-is (suc (suc zero)) h = rw in-it
+    given-is (suc (suc (suc k))) h = absurd (omega arith)
+
+    -- with nothing existing the first candidate is taken
+    untested : a .existing .0 ≡ 0 → earliestAge a ≡ candidateOf a 0
+    unfolding earliestAge searchFrom takesAt
+    untested none =
+        rw (
+          below-npa a 0 (first-below a (in-range a in-it)),
+          takes-none (potentialAt a 0) (a .existing .0) (a .limit .0) (le-ltb 0 (a .existing .0) (omega arith)),
+        )
+
+    -- what is shown, and what is not
+    shows : (k : ℕ) → Shown a (earliestAge a) k → shownOf a k ≡ potentialAt a k
+    unfolding shownOf
+    shows k s =
+        ⊎-elim
+        (λ z. rw (below-npa a k (s .below), eq-eqb (earliestAge a) 0 z))
+        (λ l. rw (below-npa a k (s .below), le-leb (candidateOf a k) (earliestAge a) l, or-true (eqb (earliestAge a) 0)))
+        (s .until)
+
+    hides : (k : ℕ) → k < 3 → (Shown a (earliestAge a) k → ⊥) → shownOf a k ≡ 0
+    unfolding shownOf
+    hides k h hidden =
+        by-test (belowNpa a k)
+        (λ b. by-test (eqb (earliestAge a) 0)
+        (λ z. absurd (hidden (record { among = h; below = is-below a k b; until = inl (eqb-true (earliestAge a) 0 z) })))
+        (λ z. by-test (leb (candidateOf a k) (earliestAge a))
+        (λ l. absurd (hidden (record { among = h; below = is-below a k b; until = inr (leb-true (candidateOf a k) (earliestAge a) l) })))
+        (λ l. rw (b, z, l))))
+        (λ b. rw b)
+
+  pub refused-limit-told : RefusedLimitTold a answer
+  refused-limit-told =
+      record {
+        eighteen = λ out. by-test (outOfRange a) refused (λ e. absurd (out (in-range a e)));
+        none = λ in-it. no-refusal (not-out a in-it);
+        in-range = λ z. in-range a (fine z);
+      }
+
+  pub found-told : FoundTold a answer
+  found-told =
+      record {
+        earliest = λ z some. rw (age-is (fine z)) (given-earliest a (λ e. some (age-is (fine z) ∙ e)));
+        no-scope = λ z none. none-given a (sym (age-is (fine z)) ∙ none);
+        none-passes = λ z fails. age-is (fine z) ∙ given-none a fails;
+        untested = λ z none. age-is (fine z) ∙ untested (fine z) none;
+        shown = λ z k s. given-shown (fine z) k s;
+        others = λ z k h hidden. given-is (fine z) k h ∙ hides (fine z) k h (λ s. hidden (rw (age-is (fine z)) s));
+        near = λ z k s. rw (given-shown (fine z) k s) (near-at a (in-range a (fine z)) k (s .below));
+      }
+    where
+      given-shown : (in-it : outOfRange a ≡ false) (k : ℕ) → Shown a (answer .age) k → givenFor answer k ≡ potentialAt a k
+      given-shown in-it k s = given-is in-it k (s .among) ∙ shows in-it k (rw (age-is in-it) at s)

@@ -1,0 +1,26 @@
+-- `reduction::factor` meets its contract, candidate by candidate.
+-- Assumes nothing.
+use mathlib.Core.Path.{_≡_}
+use Prim.Native.Nat.{suc, _-_}
+use native.Mathlib.Omega.{arith}
+use Rattle.reduction.specs.Search.{factorOf}
+use Rattle.reduction.proofs.factor.Statement.{statement}
+use Rattle.reduction.proofs.factor.Tie as tie
+
+returns : tie.Need-returns
+unfolding factorOf
+returns c = rw (c .match .keys1)
+
+returns-2 : tie.Need-returns-2
+unfolding factorOf
+returns-2 c = rw (c .match .keys2)
+
+returns-3 : tie.Need-returns-3
+unfolding factorOf
+returns-3 c =
+    let k = c .before .args .k in
+    let later : k ≡ suc (suc (k - 2)) = omega (arith, c .match .rest) in
+    rw later
+
+pub factor-spec : {M : Type 1} → statement M
+factor-spec = tie.close (tie.spec returns returns-2 returns-3)

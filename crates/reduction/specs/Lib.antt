@@ -1,0 +1,9 @@
+pub mod Near
+pub mod Power
+pub mod Potential
+pub mod Range
+pub mod Search
+pub mod Limit
+pub mod Told
+pub mod Bounds
+pub mod Noted

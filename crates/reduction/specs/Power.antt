@@ -1,0 +1,18 @@
+-- Request 4 of document 02: 1.015 to a number of years, kept in billionths.
+-- Assumes nothing.
+use Prim.Native.Nat.{ℕ, zero, suc, _*_, _^_}
+use Rattle.rounding.specs.Nearest.{halfUp}
+use Rattle.reduction.specs.Near.{Near}
+
+-- the billionths in 1
+abbrev pub billion : ℕ
+billion = 1000000000
+
+-- each year the power before is multiplied by 1,015 and divided by 1,000, to the nearest, a half going up
+unfoldable pub powerOf : (years : ℕ) → ℕ
+powerOf zero = billion
+powerOf (suc n) = halfUp (powerOf n * 1015) 1000
+
+-- p is within s billionths of the exact power, 1015^n ÷ 1000^n
+abbrev pub NearPower : (s n p : ℕ) → Type 0
+NearPower s n p = Near s p (billion * 1015 ^ n) (1000 ^ n)

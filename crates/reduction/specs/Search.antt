@@ -1,0 +1,54 @@
+-- Request 4 of document 02: up to three candidate ages, one after the other, and which of them is taken.
+-- Assumes nothing.
+use mathlib.Core.Bool.{Bool, _||_}
+use Prim.Native.Nat.{ℕ, zero, suc, _+_, _-_, max}
+use lib.Dec.{ltb, eqb}
+use lib.IntN.{ℤ, pos, subℕ}
+use lib.Signed.{ltZ}
+use Rattle.common.specs.Choice.{pick}
+use Rattle.reduction.specs.declared.Application.{Application}
+use Rattle.reduction.specs.Potential.{potentialOf}
+
+-- candidate 0 is the higher of 65 and NPA − 3; 1 and 2 are one and two years later
+unfoldable pub candidateOf : Application → ℕ → ℕ
+candidateOf a k = max 65 (a .npa - 3) + k
+
+-- the early-retirement factor of each
+unfoldable pub factorOf : Application → ℕ → ℕ
+factorOf a zero = a .«erf_first»
+factorOf a (suc zero) = a .«erf_second»
+factorOf a (suc (suc k)) = a .«erf_third»
+
+unfoldable pub yearsTo : Application → ℕ → ℕ
+yearsTo a k = candidateOf a k - a .age
+
+-- B of each
+unfoldable pub potentialAt : Application → ℕ → ℕ
+potentialAt a k = potentialOf (yearsTo a k) (a .pay) (factorOf a k)
+
+-- the greater of two numbers with a sign
+abbrev pub greaterOf : ℤ → ℤ → ℤ
+greaterOf x y = pick (ltZ x y) y x
+
+-- C, which may be below zero: the greater of B − A and L − A (`subℕ x y` is x − y with its sign)
+unfoldable pub headroom : (b existing limit : ℕ) → ℤ
+headroom b existing limit = greaterOf (subℕ b existing) (subℕ limit existing)
+
+-- B < C; with A = 0 this test is not made
+unfoldable pub takes : (b existing limit : ℕ) → Bool
+takes b existing limit = eqb existing 0 || ltZ (pos b) (headroom b existing limit)
+
+unfoldable pub takesAt : Application → ℕ → Bool
+takesAt a k = takes (potentialAt a k) (a .existing .0) (a .limit .0)
+
+unfoldable pub belowNpa : Application → ℕ → Bool
+belowNpa a k = ltb (candidateOf a k) (a .npa)
+
+-- of n candidates from k on, the first that is taken; 0, no scope, where the search comes to one that is not below NPA, or to the end
+unfoldable pub searchFrom : Application → (k n : ℕ) → ℕ
+searchFrom a k zero = 0
+searchFrom a k (suc n) = pick (belowNpa a k) (pick (takesAt a k) (candidateOf a k) (searchFrom a (suc k) n)) 0
+
+-- the earliest reduced retirement age, 0 for no scope
+unfoldable pub earliestAge : Application → ℕ
+earliestAge a = searchFrom a 0 3
