@@ -14,10 +14,14 @@ use Rattle.settlement.proofs.Bounds.{settle-bounds}
 use Rattle.pay_off.specs.PayOff.{PayOffNumbers, payOffOf}
 use Rattle.pay_off.specs.Bounds.{PayOffBounds}
 use Rattle.pay_off.proofs.Bounds.{pay-off-bounds}
+use Rattle.reduction.specs.declared.Application.{Application}
+use Rattle.reduction.specs.Limit.{LimitNumbers, reductionLimitOf}
+use Rattle.reduction.specs.Bounds.{LimitBounds}
+use Rattle.reduction.proofs.Bounds.{limit-bounds}
 use Rattle.number_bytes.specs.Bytes.{lowBytes, eightBytes, inBytes}
-use Rattle.host.specs.Calls.{quoteBytes, settleBytes, payOffBytes, hostQuoteOf, hostSettleOf, hostPayOffOf}
-use Rattle.host.specs.Reading.{numberOf, numberAt, QuoteRead, SettleRead, PayOffRead}
-use Rattle.host.proofs.Calls.{quote-enough, settle-enough, pay-off-enough}
+use Rattle.host.specs.Calls.{quoteBytes, settleBytes, payOffBytes, limitBytes, hostQuoteOf, hostSettleOf, hostPayOffOf, hostReductionLimitOf}
+use Rattle.host.specs.Reading.{numberOf, numberAt, QuoteRead, SettleRead, PayOffRead, LimitRead}
+use Rattle.host.proofs.Calls.{quote-enough, settle-enough, pay-off-enough, limit-enough}
 use Rattle.host.proofs.QuoteBounds.{QuoteBounds, quote-bounds}
 
 low-back : (k n : ℕ) → n < 256 ^ k → numberOf (lowBytes k n) ≡ n
@@ -64,6 +68,17 @@ pay-off-back n rest most =
       cost = eight-back (n .cost) (omega arith);
     }
 
+limit-back : (n : LimitNumbers) (rest : List ℕ) → LimitBounds n → LimitRead (limitBytes n ++ rest) n
+unfolding limitBytes inBytes eightBytes lowBytes numberAt
+limit-back n rest most =
+    record {
+      refusal = eight-back (n .refusal) (omega arith);
+      age = eight-back (n .age) (omega arith);
+      first = eight-back (n .first) (omega arith);
+      second = eight-back (n .second) (omega arith);
+      third = eight-back (n .third) (omega arith);
+    }
+
 -- after a call with room for the result, the buffer holds the numbers of Quote
 pub quote-reads : (t : Terms) (existing last : ℕ) (buffer : List ℕ) → 24 ≤ length buffer
     → QuoteRead (hostQuoteOf t existing last buffer .buffer) (quoteOf t existing last)
@@ -84,3 +99,9 @@ pub pay-off-reads : (t : Terms) (marks : List ℕ) (ageNow increase : ℕ) (buff
 pay-off-reads t marks ageNow increase buffer h =
     subst (λ (l : List ℕ). PayOffRead l (payOffOf t marks ageNow increase)) (pay-off-enough t marks ageNow increase buffer h refl (refl, refl) .1)
     (pay-off-back (payOffOf t marks ageNow increase) (drop 40 buffer) (pay-off-bounds t marks ageNow increase))
+
+-- and of the reduction limit
+pub limit-reads : (a : Application) (buffer : List ℕ) → 40 ≤ length buffer → LimitRead (hostReductionLimitOf a buffer .buffer) (reductionLimitOf a)
+limit-reads a buffer h =
+    subst (λ (l : List ℕ). LimitRead l (reductionLimitOf a)) (limit-enough a buffer h refl (refl, refl) .1)
+    (limit-back (reductionLimitOf a) (drop 40 buffer) (limit-bounds a))

@@ -1,4 +1,5 @@
--- Document 01, "What each operation gives": Quote and Settle, called by a host; and the pay-off of request 1 of document 02.
+-- Document 01, "What each operation gives": Quote and Settle, called by a host; and of document 02 the pay-off of request 1 and the
+-- reduction limit of request 4.
 -- Assumes nothing.
 use mathlib.Core.List.{List, [], _∷_, _++_}
 use Prim.Native.Nat.{ℕ}
@@ -9,12 +10,29 @@ use Rattle.terms.specs.declared.Terms.{Terms}
 use Rattle.quotes.specs.Quote.{QuoteNumbers, quoteOf}
 use Rattle.settlement.specs.Settle.{SettleNumbers, settleOf}
 use Rattle.pay_off.specs.PayOff.{PayOffNumbers, payOffOf}
+use Rattle.money.specs.Money.{pension}
+use Rattle.reduction.specs.declared.Application.{Application}
+use Rattle.reduction.specs.Limit.{LimitNumbers, reductionLimitOf}
 use Rattle.number_bytes.specs.Bytes.{inBytes}
 
 -- the terms that a call's numbers stand for
 abbrev pub terms : (age years months option payer term amount : ℕ) → Terms
 terms age years months option payer term amount =
     record { age = age; years = years; months = months; option = option; payer = payer; term = term; amount = amount }
+
+-- the application that a call's numbers stand for
+abbrev pub application : (npa age pay first second third existing limit : ℕ) → Application
+application npa age pay first second third existing limit =
+    record {
+      npa = npa;
+      age = age;
+      pay = pay;
+      «erf_first» = first;
+      «erf_second» = second;
+      «erf_third» = third;
+      existing = pension existing;
+      limit = pension limit;
+    }
 
 -- the result of Quote: refusal, contribution, next number
 unfoldable pub quoteBytes : QuoteNumbers → List ℕ
@@ -27,6 +45,10 @@ settleBytes n = inBytes (n .refusal ∷ n .place ∷ n .contribution ∷ n .stat
 -- the result of the pay-off: refusal, place, remaining pension, increased pension, cost
 unfoldable pub payOffBytes : PayOffNumbers → List ℕ
 payOffBytes n = inBytes (n .refusal ∷ n .place ∷ n .remaining ∷ n .increased ∷ n .cost ∷ [])
+
+-- the result of the reduction limit: refusal, age, the B of the three candidates
+unfoldable pub limitBytes : LimitNumbers → List ℕ
+limitBytes n = inBytes (n .refusal ∷ n .age ∷ n .first ∷ n .second ∷ n .third ∷ [])
 
 -- what a call gives: its value, and every byte of the lent buffer when it returns
 pub record HostAnswer : Type 0 where
@@ -52,3 +74,7 @@ hostSettleOf t marks buffer = answerIn 48 (settleOf t marks .refusal) (settleByt
 unfoldable pub hostPayOffOf : Terms → (marks : List ℕ) → (ageNow increase : ℕ) → List ℕ → HostAnswer
 hostPayOffOf t marks ageNow increase buffer =
     answerIn 40 (payOffOf t marks ageNow increase .refusal) (payOffBytes (payOffOf t marks ageNow increase)) buffer
+
+-- the reduction limit for a host: 40 bytes
+unfoldable pub hostReductionLimitOf : Application → List ℕ → HostAnswer
+hostReductionLimitOf a buffer = answerIn 40 (reductionLimitOf a .refusal) (limitBytes (reductionLimitOf a)) buffer

@@ -1,14 +1,18 @@
-// Quote, Settle and the pay-off for a host in C or Rust: plain numbers and a byte slice of marks in, the results as bytes in a lent buffer.
+// Quote, Settle, the pay-off and the reduction limit for a host in C or Rust: plain numbers and a byte slice of marks in, the results as
+// bytes in a lent buffer.
 ghost use mathlib.Core.Path.{_≡_};
 ghost use mathlib.Core.List.{[], _∷_};
 ghost use Rattle.quotes.specs.Quote.{numbersOf as quoteNumbers};
 ghost use Rattle.pay_off.specs.PayOff.{numbersOf as payOffNumbers};
-ghost use Rattle.host.specs.Calls.{terms, hostQuoteOf, hostSettleOf, hostPayOffOf};
+ghost use Rattle.reduction.specs.Limit.{numbersOf as limitNumbers};
+ghost use Rattle.host.specs.Calls.{terms, application, hostQuoteOf, hostSettleOf, hostPayOffOf, hostReductionLimitOf};
 use money::PensionPence;
 use pay_off::PayOff;
 use quotes::QuoteAnswer;
 use quotes::Quoted;
 use quotes::Register;
+use reduction::Application;
+use reduction::ReductionLimit;
 use terms::Terms;
 
 // How many bytes the results of Quote take.
@@ -19,6 +23,12 @@ const SETTLE_BYTES: usize = 48;
 
 // How many those of the pay-off take.
 const PAY_OFF_BYTES: usize = 40;
+
+// How many those of the reduction limit take.
+const REDUCTION_LIMIT_BYTES: usize = 40;
+
+// The refusal of an application that is out of range.
+const OUT_OF_RANGE: u64 = 18;
 
 // The value of a call whose buffer has fewer bytes.
 const SHORT_BUFFER: u32 = 14;
@@ -48,6 +58,23 @@ fn pay_off_numbers(answer: PayOff) -> [u64; 5]
             increased,
             cost,
         } => [0, 0, remaining.0, increased.0, cost.0],
+    }
+}
+
+// What a reduction limit answers, in the order in which it is stored.
+fn limit_numbers(answer: ReductionLimit) -> [u64; 5]
+    ensures { λ r. ⌜ r ≡ limitNumbers answer .refusal ∷ limitNumbers answer .age ∷ limitNumbers answer .first ∷ limitNumbers answer .second ∷ limitNumbers answer .third ∷ [] ⌝ }
+{
+    match answer {
+        ReductionLimit::Refused => [OUT_OF_RANGE, 0, 0, 0, 0],
+        ReductionLimit::NoScope(p) => [0, 0, p.first.0, p.second.0, p.third.0],
+        ReductionLimit::Found { age, potentials } => [
+            0,
+            age as u64,
+            potentials.first.0,
+            potentials.second.0,
+            potentials.third.0,
+        ],
     }
 }
 
@@ -164,4 +191,39 @@ pub extern "C" fn ap_pay_off(
     let answer = pay_off_numbers(pay_off::pay_off(t, marks, age_now, increase));
     number_bytes::put_all(out, &answer);
     answer[0] as u32
+}
+
+// The reduction limit. A buffer of fewer than 40 bytes is left as it is and gives 14. Otherwise its first 40 bytes are refusal, age and
+// the B of the three candidates, and the value is the refusal.
+#[no_mangle]
+pub extern "C" fn ap_reduction_limit(
+    npa: u32,
+    age: u32,
+    pay: u32,
+    erf_first: u32,
+    erf_second: u32,
+    erf_third: u32,
+    existing_pence: u64,
+    limit_pence: u64,
+    out: &mut [u8],
+) -> u32
+    ensures value { λ r. ⌜ r ≡ hostReductionLimitOf (application npa age pay «erf_first» «erf_second» «erf_third» «existing_pence» «limit_pence») (now (out .entry)) .value ⌝ }
+    ensures buffer { λ r. ⌜ now (out .exit) ≡ hostReductionLimitOf (application npa age pay «erf_first» «erf_second» «erf_third» «existing_pence» «limit_pence») (now (out .entry)) .buffer ⌝ }
+{
+    if out.len() < REDUCTION_LIMIT_BYTES {
+        return SHORT_BUFFER;
+    }
+    let a = Application {
+        npa,
+        age,
+        pay,
+        erf_first,
+        erf_second,
+        erf_third,
+        existing: PensionPence(existing_pence),
+        limit: PensionPence(limit_pence),
+    };
+    let told = limit_numbers(reduction::reduction_limit(a));
+    number_bytes::put_all(out, &told);
+    told[0] as u32
 }

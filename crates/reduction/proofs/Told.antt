@@ -84,10 +84,14 @@ module _ (a : Application) where
   pub refused-limit-told : RefusedLimitTold a answer
   refused-limit-told =
       record {
-        eighteen = λ out. by-test (outOfRange a) refused (λ e. absurd (out (in-range a e)));
+        eighteen = λ out. rw (refused (is-out out));
+        zeros = λ out. rw (refused (is-out out)) (refl, (refl, (refl, refl)));
         none = λ in-it. no-refusal (not-out a in-it);
         in-range = λ z. in-range a (fine z);
       }
+    where
+      is-out : (InRange a → ⊥) → outOfRange a ≡ true
+      is-out out = by-test (outOfRange a) (λ e. e) (λ e. absurd (out (in-range a e)))
 
   pub found-told : FoundTold a answer
   found-told =

@@ -9,7 +9,7 @@ use Rattle.reduction.specs.declared.Application.{Application}
 use Rattle.reduction.specs.Potential.{NearPotential}
 use Rattle.reduction.specs.Range.{InRange}
 use Rattle.reduction.specs.Search.{candidateOf, yearsTo, factorOf, potentialAt, headroom}
-use Rattle.reduction.specs.Limit.{LimitNumbers, refusedLimit}
+use Rattle.reduction.specs.Limit.{LimitNumbers}
 
 -- candidate k is below NPA, and A is 0 or B < C
 pub record Passing (a : Application) (k : ℕ) : Type 0 where
@@ -42,9 +42,10 @@ pub record Shown (a : Application) (age k : ℕ) : Type 0 where
 
 -- what is refused
 pub record RefusedLimitTold (a : Application) (n : LimitNumbers) : Type 0 where
-  -- 18 and zeros where an input is out of range,
-  pub eighteen : (InRange a → ⊥) → n ≡ refusedLimit
-  -- and nowhere else
+  -- where an input is out of range, 18 and nothing else,
+  pub eighteen : (InRange a → ⊥) → n .refusal ≡ 18
+  pub zeros : (InRange a → ⊥) → (n .age ≡ 0) × ((n .first ≡ 0) × ((n .second ≡ 0) × (n .third ≡ 0)))
+  -- and no refusal anywhere else
   pub none : InRange a → n .refusal ≡ 0
   pub in-range : n .refusal ≡ 0 → InRange a
 
