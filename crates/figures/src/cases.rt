@@ -15,6 +15,9 @@ const BLEND: u64 = 3;
 // Option, pension age, age, term.
 const RATE: u64 = 4;
 
+// Normal pension age, age, pay in pounds, three factors in thousandths, existing pension and limit in pence.
+const REDUCTION_LIMIT: u64 = 8;
+
 // Terms, existing pension in pence, last quote number.
 const QUOTE: u64 = 9;
 
@@ -256,4 +259,65 @@ pub const HALVES: [u64; 214] = [
     SETTLE, 50, 65,  6, 2, 1, 2, 1000, 1,  1, 0, 0, 0, 0, 0, 0, // both tables, 4,278.5: down
     SETTLE, 50, 65, 10, 2, 1, 2, 1000, 1,  1, 0, 0, 0, 0, 0, 0, // 4,277.5: up
     PAY_OFF, 50, 65, 0, 2, 1, 5, 1000, 1, 18, 0, 0, 0, 0, 0, 0, 51, 1250, // increased pension, 84,002.5: up, by the pay-off's own rule
+];
+
+// The examples of document 003 that work out an earliest reduced retirement age.
+pub const DOCUMENT_003: [u64; 27] = [
+    REDUCTION_LIMIT, 67, 50,  30000,  896,  946, 1000,         0,    692400, // example A, with the age, pay and limit of B
+    REDUCTION_LIMIT, 67, 50,  30000,  896,  946, 1000,    400000,    692400, // example B
+    REDUCTION_LIMIT, 68, 35,  70000,  850,  896,  946,    200000,    692400, // example C
+];
+
+// The reduction limit by request 4 of document 02: the search at its edges, exact halves of B, the greatest figures.
+pub const SEARCHES: [u64; 216] = [
+    REDUCTION_LIMIT, 67, 50,  30000,  896,  946, 1000,         0,         0, // nothing held: the limit is not looked at
+    REDUCTION_LIMIT, 67, 50,  30000,  896,  946, 1000,         0, 100000000,
+    REDUCTION_LIMIT, 67, 50,  30000,  896,  946, 1000,         1,    108354, // a penny held, B = C: the next
+    REDUCTION_LIMIT, 67, 50,  30000,  896,  946, 1000,         1,    108355, // C a penny more
+    REDUCTION_LIMIT, 67, 50,  30000,  896,  946, 1000,    400000,    508353, // B = C: the next
+    REDUCTION_LIMIT, 67, 50,  30000,  896,  946, 1000,    400000,    508354, // C a penny more
+    REDUCTION_LIMIT, 67, 50,  30000,  896,  946, 1000,    400000,    460911, // B = C at the second, and the third is the pension age: no scope
+    REDUCTION_LIMIT, 67, 50,  30000,  896,  946, 1000,    400000,    460912, // C a penny more at the second
+    REDUCTION_LIMIT, 67, 50,  30000,  896,  946, 1000,    400000,    399999, // the limit is below what is held: no scope
+    REDUCTION_LIMIT, 67, 50,  30000, 1000, 1000, 1000,    400000,    400000, // B and C are 0: no scope
+    REDUCTION_LIMIT, 67, 50,  30000, 1000, 1000, 1000,    400000,    400001, // B is 0, C a penny
+    REDUCTION_LIMIT, 68, 35,  70000, 1000, 1000, 1000,         1,         0, // C is below zero three times: no scope
+    REDUCTION_LIMIT, 68, 35,  70000,  850,  896,  946,    200000,    863051, // B = C at the second: the third
+    REDUCTION_LIMIT, 68, 35,  70000,  850,  896,  946,    200000,    863052, // C a penny more at the second
+    REDUCTION_LIMIT, 68, 35,  70000,  850,  896,  946,    200000,    560713, // B = C at the third: no scope
+    REDUCTION_LIMIT, 68, 35,  70000,  850,  896,  946,    200000,    560714, // C a penny more at the third
+    REDUCTION_LIMIT, 66, 50,  30000,  896,  946, 1000,    400000,    508353, // B = C, and the second is the pension age: no scope
+    REDUCTION_LIMIT, 66, 50,  30000,  896,  946, 1000,    400000,    508354, // C a penny more
+    REDUCTION_LIMIT, 69, 50,  30000,  850,  896,  946,    400000,    692400, // the first candidate is 66
+    REDUCTION_LIMIT, 70, 50,  30000,  850,  896,  946,    400000,    692400, // the first candidate is 67
+    REDUCTION_LIMIT, 66, 64,    162,    0,    0,    0,         0,         0, // 304.5 pence: up, where the even penny would be down
+    REDUCTION_LIMIT, 66, 64,     54,    0,    0,    0,         0,         0, // 101.5 pence: up
+    REDUCTION_LIMIT, 66, 64,      1, 1000, 1000, 1000,         0,         0, // the least years and pay
+    REDUCTION_LIMIT, 70, 24, 200000,    0,    0,    0,         1,         0, // the most years and pay
+];
+
+// The same at both sides of each bound. A remark that starts with 18 names the refusal.
+pub const RANGES: [u64; 198] = [
+    REDUCTION_LIMIT, 65, 50,  30000,  896,  946, 1000,    400000,    692400, // 18: pension age
+    REDUCTION_LIMIT, 66, 50,  30000,  896,  946, 1000,    400000,    692400,
+    REDUCTION_LIMIT, 70, 50,  30000,  896,  946, 1000,    400000,    692400,
+    REDUCTION_LIMIT, 71, 50,  30000,  896,  946, 1000,    400000,    692400, // 18
+    REDUCTION_LIMIT, 67, 23,  30000,  896,  946, 1000,    400000,    692400, // 18: age
+    REDUCTION_LIMIT, 67, 24,  30000,  896,  946, 1000,    400000,    692400,
+    REDUCTION_LIMIT, 67, 64,  30000,  896,  946, 1000,    400000,    692400,
+    REDUCTION_LIMIT, 67, 65,  30000,  896,  946, 1000,    400000,    692400, // 18
+    REDUCTION_LIMIT, 67, 50,      0,  896,  946, 1000,    400000,    692400, // 18: pay
+    REDUCTION_LIMIT, 67, 50,      1,  896,  946, 1000,    400000,    692400,
+    REDUCTION_LIMIT, 67, 50, 200000,  896,  946, 1000,    400000,    692400,
+    REDUCTION_LIMIT, 67, 50, 200001,  896,  946, 1000,    400000,    692400, // 18
+    REDUCTION_LIMIT, 67, 50,  30000, 1000, 1000, 1000,    400000,    692400, // all three factors at their most
+    REDUCTION_LIMIT, 67, 50,  30000, 1001,  946, 1000,    400000,    692400, // 18: factors
+    REDUCTION_LIMIT, 67, 50,  30000,  896, 1001, 1000,    400000,    692400, // 18, though the first candidate would be taken
+    REDUCTION_LIMIT, 67, 50,  30000,  896,  946, 1001,    400000,    692400, // 18, though the third is the pension age
+    REDUCTION_LIMIT, 67, 50,  30000,  896,  946, 1000, 100000000,    692400, // the most existing pension
+    REDUCTION_LIMIT, 67, 50,  30000,  896,  946, 1000, 100000001,    692400, // 18: existing pension
+    REDUCTION_LIMIT, 67, 50,  30000,  896,  946, 1000,    400000, 100000000, // the highest limit
+    REDUCTION_LIMIT, 67, 50,  30000,  896,  946, 1000,    400000, 100000001, // 18: limit
+    REDUCTION_LIMIT, 67, 50,  30000,  896,  946, 1000,         0, 100000001, // 18, though nothing is held
+    REDUCTION_LIMIT, 4294967295, 4294967295, 4294967295, 4294967295, 4294967295, 4294967295, 18446744073709551615, 18446744073709551615, // 18
 ];

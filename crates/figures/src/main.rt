@@ -1,6 +1,6 @@
-// The documents' figures, the cap decision, Quote, Settle, Schedule and the pay-off at their edges, and exact halves, one to a line: what
-// is asked, then what the part gives, money in pence. The figures that are marked as proved are rows of crate `rows`; the file stdout holds
-// what the others must be. Posting and the member total are run by program `posting`.
+// The documents' figures, the cap decision, Quote, Settle, Schedule, the pay-off and the reduction limit at their edges, and exact halves,
+// one to a line: what is asked, then what the part gives, money in pence. The figures that are marked as proved are rows of crate `rows`;
+// the file stdout holds what the others must be. Posting and the member total are run by program `posting`.
 mod cases;
 mod elapsed;
 mod line;
@@ -33,6 +33,18 @@ fn halves() {
     print_table(b"02 ", &cases::HALVES);
 }
 
+fn document_003() {
+    print_table(b"003 ", &cases::DOCUMENT_003);
+}
+
+fn searches() {
+    print_table(b"02 ", &cases::SEARCHES);
+}
+
+fn ranges() {
+    print_table(b"02 ", &cases::RANGES);
+}
+
 fn main() {
     document_000();
     document_001();
@@ -40,4 +52,7 @@ fn main() {
     edges();
     pay_offs();
     halves();
+    document_003();
+    searches();
+    ranges();
 }

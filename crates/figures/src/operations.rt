@@ -11,6 +11,8 @@ use pay_off::PayOff;
 use quotes::QuoteAnswer;
 use quotes::Quoted;
 use quotes::Register;
+use reduction::Application;
+use reduction::ReductionLimit;
 use terms::Terms;
 
 // The number in a column; 0 past the row.
@@ -175,6 +177,40 @@ fn pay_off(row: &[u64]) {
     );
 }
 
+// Refusal, age, the B of three candidates.
+fn limit_numbers(answer: ReductionLimit) -> [u64; 6] {
+    match answer {
+        ReductionLimit::Refused => [18, 0, 0, 0, 0, 0],
+        ReductionLimit::NoScope(p) => [0, 0, p.first.0, p.second.0, p.third.0, 0],
+        ReductionLimit::Found { age, potentials: p } => [
+            0,
+            age as u64,
+            p.first.0,
+            p.second.0,
+            p.third.0,
+            0,
+        ],
+    }
+}
+
+fn reduction_limit(row: &[u64]) {
+    let answer = reduction::reduction_limit(Application {
+        npa: narrow(row, 0),
+        age: narrow(row, 1),
+        pay: narrow(row, 2),
+        erf_first: narrow(row, 3),
+        erf_second: narrow(row, 4),
+        erf_third: narrow(row, 5),
+        existing: PensionPence(at(row, 6)),
+        limit: PensionPence(at(row, 7)),
+    });
+    line::filled(
+        b"reduction-limit* is refusal# age# first# second# third#",
+        row,
+        limit_numbers(answer),
+    );
+}
+
 // By the number of its columns, as cases.rt names them; any other row prints nothing.
 fn print_row(row: &[u64]) {
     match row.len() {
@@ -182,6 +218,7 @@ fn print_row(row: &[u64]) {
         2 => nearest(row),
         3 => blend(row),
         4 => rate(row),
+        8 => reduction_limit(row),
         9 => quote(row),
         15 => settle(row),
         16 => schedule(row),
