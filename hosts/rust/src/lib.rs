@@ -1,10 +1,12 @@
-//! Additional Pension of the HSC Pension Scheme 2015: quoting an election, settling a contract and paying off its rest.
+//! Additional Pension of the HSC Pension Scheme 2015: quoting an election, settling a contract and paying off its rest; and the
+//! limit on buying out the reduction of an early pension.
 //!
-//! The figures come from a static library whose three functions are proved to keep the scheme's rules for every input. This
+//! The figures come from a static library whose four functions are proved to keep the scheme's rules for every input. This
 //! crate only puts Rust's types around them: it checks nothing, rounds nothing and refuses nothing of its own.
 //!
 //! The library rounds to the nearest penny. An exact half goes to the even penny in a contribution, a whole-year credit, the value
-//! at a month and the combined credits of two tables; it goes up in the increased pension and the cost of a pay-off.
+//! at a month and the combined credits of two tables; it goes up in the increased pension and the cost of a pay-off, and in the
+//! potential value (B) of a reduction buy-out.
 //!
 //! ```
 //! use additional_pension::{pay_off, settle, Payer, PensionAge, PensionOption, Status, Terms, PAID};
@@ -27,12 +29,31 @@
 //! assert_eq!(paid_off.cost.to_string(), "£13866.73");
 //! # Ok::<(), additional_pension::Refusal>(())
 //! ```
+//!
+//! ```
+//! use additional_pension::{reduction_limit, Application, Pension};
+//!
+//! let application = Application {
+//!     npa: 67,
+//!     age: 50,
+//!     pay: 30_000,
+//!     factors: [896, 946, 1_000],
+//!     existing: Pension(4_000_00),
+//!     limit: Pension(6_924_00),
+//! };
+//! let limited = reduction_limit(&application)?;
+//! assert_eq!(limited.age, Some(65));
+//! assert_eq!(limited.potentials[0].to_string(), "£1083.53 a year");
+//! # Ok::<(), additional_pension::Refusal>(())
+//! ```
 
+mod application;
 mod money;
 pub mod raw;
 mod refusal;
 mod terms;
 
+pub use application::Application;
 pub use money::{Contribution, Pension};
 pub use refusal::Refusal;
 pub use terms::{Payer, PensionAge, PensionOption, Status, Terms, ENDED, MISSED, PAID};
@@ -67,6 +88,17 @@ pub struct PayOff {
     pub increased: Pension,
     /// The lump sum that pays it off.
     pub cost: Contribution,
+}
+
+/// How early a reduction may be bought out to. The candidates are the higher of 65 and the pension age less 3 years, then one and
+/// two years later.
+#[derive(Clone, Copy, Debug, PartialEq, Eq)]
+pub struct ReductionLimit {
+    /// The earliest reduced retirement age that the member may choose; nothing where there is no scope.
+    pub age: Option<u32>,
+    /// B of each candidate: the greatest value, in pension a year, that a buy-out up to it could come to. 0 for the candidates
+    /// that were not tried: those after the one that is taken, and those at the pension age or past it.
+    pub potentials: [Pension; 3],
 }
 
 /// Quotes an election for a member who has `existing` pension (Additional Pension and the value of any reduction buy-out).
@@ -106,5 +138,22 @@ pub fn pay_off(terms: &Terms, marks: &[u8], age_now: u32, increase: u32) -> Resu
         remaining: Pension(number(raw::PAY_OFF_REMAINING)),
         increased: Pension(number(raw::PAY_OFF_INCREASED)),
         cost: Contribution(number(raw::PAY_OFF_COST)),
+    })
+}
+
+/// Finds the earliest candidate that a reduction may be bought out to: the first, if there is no existing pension; else the first
+/// below the pension age whose B is below the greater of B and the limit, each less existing pension.
+pub fn reduction_limit(application: &Application) -> Result<ReductionLimit, Refusal> {
+    let mut result = [0; raw::REDUCTION_LIMIT_BYTES];
+    let refusal = raw::reduction_limit(&application.numbers(), &mut result);
+    let number = |offset| raw::number(&result, offset);
+    Refusal::check(refusal, 0)?;
+    let potentials = [raw::REDUCTION_LIMIT_B_FIRST, raw::REDUCTION_LIMIT_B_SECOND, raw::REDUCTION_LIMIT_B_THIRD];
+    Ok(ReductionLimit {
+        age: match number(raw::REDUCTION_LIMIT_AGE) {
+            0 => None,
+            age => Some(age as u32),
+        },
+        potentials: potentials.map(|offset| Pension(number(offset))),
     })
 }

@@ -1,4 +1,4 @@
-//! The library's three calls as they are: numbers and bytes.
+//! The library's four calls as they are: numbers and bytes.
 
 /// The bytes of a quote's result: numbers of 8 bytes, low byte first.
 pub const QUOTE_BYTES: usize = 24;
@@ -22,6 +22,14 @@ pub const PAY_OFF_PLACE: usize = 8;
 pub const PAY_OFF_REMAINING: usize = 16;
 pub const PAY_OFF_INCREASED: usize = 24;
 pub const PAY_OFF_COST: usize = 32;
+
+/// The bytes of a reduction limit: numbers of 8 bytes, low byte first.
+pub const REDUCTION_LIMIT_BYTES: usize = 40;
+pub const REDUCTION_LIMIT_REFUSAL: usize = 0;
+pub const REDUCTION_LIMIT_AGE: usize = 8;
+pub const REDUCTION_LIMIT_B_FIRST: usize = 16;
+pub const REDUCTION_LIMIT_B_SECOND: usize = 24;
+pub const REDUCTION_LIMIT_B_THIRD: usize = 32;
 
 /// The value of a call whose buffer is too short.
 pub const SHORT_BUFFER: u32 = 14;
@@ -47,6 +55,21 @@ impl From<[u32; 7]> for Numbers {
     fn from([age, pension_age_years, pension_age_months, option, payer, term, amount]: [u32; 7]) -> Self {
         Self { age, pension_age_years, pension_age_months, option, payer, term, amount }
     }
+}
+
+/// An application as numbers. Every number has an answer.
+#[derive(Clone, Copy, Debug, PartialEq, Eq)]
+pub struct ApplicationNumbers {
+    pub npa: u32,
+    pub age: u32,
+    /// Whole pounds a year.
+    pub pay: u32,
+    /// Thousandths.
+    pub factors: [u32; 3],
+    /// Pence a year.
+    pub existing_pence: u64,
+    /// Pence a year.
+    pub limit_pence: u64,
 }
 
 mod linked {
@@ -94,6 +117,19 @@ mod linked {
             out: *mut u8,
             out_len: usize,
         ) -> u32;
+
+        pub fn ap_reduction_limit(
+            npa: u32,
+            age: u32,
+            pay: u32,
+            erf_first: u32,
+            erf_second: u32,
+            erf_third: u32,
+            existing_pence: u64,
+            limit_pence: u64,
+            out: *mut u8,
+            out_len: usize,
+        ) -> u32;
     }
 }
 
@@ -125,6 +161,15 @@ pub fn settle(terms: &Numbers, marks: &[u8], out: &mut [u8]) -> u32 {
 pub fn pay_off(terms: &Numbers, marks: &[u8], age_now: u32, increase: u32, out: &mut [u8]) -> u32 {
     // SAFETY: as for `settle`.
     unsafe { with_terms!(ap_pay_off, terms, marks.as_ptr(), marks.len(), age_now, increase, out.as_mut_ptr(), out.len()) }
+}
+
+/// Finds a reduction limit into the first [`REDUCTION_LIMIT_BYTES`] of `out`; the rest stays. The value is the refusal, 0 for
+/// none. A shorter `out` keeps its bytes, and the value is [`SHORT_BUFFER`].
+pub fn reduction_limit(application: &ApplicationNumbers, out: &mut [u8]) -> u32 {
+    let ApplicationNumbers { npa, age, pay, factors: [first, second, third], existing_pence, limit_pence } = *application;
+    let (start, length) = (out.as_mut_ptr(), out.len());
+    // SAFETY: as for `quote`.
+    unsafe { linked::ap_reduction_limit(npa, age, pay, first, second, third, existing_pence, limit_pence, start, length) }
 }
 
 /// The number at one of the offsets of a result.

@@ -36,6 +36,9 @@ pub enum Refusal {
     NothingToPayOff,
     /// 17: the increase is not from 1,000 to 9,999 thousandths.
     Increase,
+    /// 18: a number of the application is out of range: the pension age not from 66 to 70, the age not from 24 to 64, the pay not
+    /// from £1 to £200,000, any of the three factors above 1,000 thousandths, existing pension or the limit above £1,000,000.
+    Application,
 }
 
 impl Refusal {
@@ -58,6 +61,7 @@ impl Refusal {
             14 => Refusal::ShortBuffer,
             16 => Refusal::NothingToPayOff,
             17 => Refusal::Increase,
+            18 => Refusal::Application,
             _ => unreachable!("the library has no refusal {number}"),
         })
     }
@@ -80,6 +84,7 @@ impl Refusal {
             Refusal::ShortBuffer => 14,
             Refusal::NothingToPayOff => 16,
             Refusal::Increase => 17,
+            Refusal::Application => 18,
         }
     }
 }
@@ -102,6 +107,7 @@ impl fmt::Display for Refusal {
             Refusal::ShortBuffer => write!(formatter, "the buffer is too short"),
             Refusal::NothingToPayOff => write!(formatter, "the contract has nothing to pay off"),
             Refusal::Increase => write!(formatter, "the increase is outside its range"),
+            Refusal::Application => write!(formatter, "a number of the application is outside its range"),
         }
     }
 }

@@ -1,75 +1,32 @@
-//! The library's three calls against the reference, over made-up inputs and over every lawful election.
+//! Quotes, settlements and pay-offs against the reference, over made-up inputs and over every lawful election.
 //!
 //! Each call gets its marks and its buffer within a larger piece of memory, at any alignment. All of that memory is compared
 //! afterwards, so a byte changed before, after or in the marks counts as a difference just as a wrong result does.
 //! `AP_INPUTS` sets how many quotes and settlements together, and how many pay-offs, are made up.
 
+mod common;
+
 use additional_pension::raw::{self, Numbers};
+use common::{buffer_length, list, Lent, INPUTS, SEED};
 use reference::halves::{HalvesUp, PLACES};
 use reference::samples::{self, Random};
 use reference::Terms;
-use std::fmt::Debug;
-
-const SEED: u64 = 20_150_331;
-const INPUTS: u32 = 2_000_000;
+use std::fmt;
 
 /// £1,000 over 5 years from 50, with dependant's pension.
 const FIVE_YEARS: Terms =
     Terms { age: 50, pension_age_years: 65, pension_age_months: 0, option: 2, payer: 1, term: 5, amount: 1_000 };
 
-/// Bytes on either side of a lent piece of memory.
-const MARGIN: usize = 64;
+type Tally = common::Tally<Contracts>;
 
-/// Memory of which a piece is lent: what stands around it must stay.
-struct Lent {
-    bytes: Vec<u8>,
-    start: usize,
-    length: usize,
-}
-
-impl Lent {
-    fn new(random: &mut Random, length: usize) -> Lent {
-        let start = MARGIN + random.from_to(0, 7) as usize;
-        let mut bytes = Vec::with_capacity(start + length + MARGIN);
-        while bytes.len() < start + length + MARGIN {
-            bytes.extend(random.number().to_le_bytes());
-        }
-        Lent { bytes, start, length }
-    }
-
-    fn holding(random: &mut Random, content: &[u8]) -> Lent {
-        let mut lent = Lent::new(random, content.len());
-        lent.piece().copy_from_slice(content);
-        lent
-    }
-
-    fn piece(&mut self) -> &mut [u8] {
-        &mut self.bytes[self.start..self.start + self.length]
-    }
-}
-
-/// A length for a result's buffer: exact, with room to spare, or too short.
-fn buffer_length(random: &mut Random, exact: usize) -> usize {
-    match random.from_to(0, 9) {
-        0 => random.from_to(0, exact as u32 - 1) as usize,
-        1 => exact - 1,
-        2 => exact + 1,
-        3 | 4 => exact + random.from_to(1, 100) as usize,
-        _ => exact,
-    }
-}
-
-/// What was met, and what differed.
+/// What was met among contracts.
 #[derive(Default)]
-struct Tally {
-    inputs: u64,
-    refusals: [u64; 18],
+struct Contracts {
     statuses: [u64; 7],
     longest: usize,
     /// For each of the places where halves go to the even penny: the answers that would be others, if they went up there.
     halves: [u64; PLACES.len()],
     rests: Rests,
-    differences: u64,
 }
 
 /// What was met among pay-offs alone.
@@ -84,91 +41,67 @@ struct Rests {
     halves: u64,
 }
 
-impl Tally {
-    fn compare<T: PartialEq + Debug>(&mut self, input: impl Debug, part: T, reference: T) {
-        if part == reference {
-            return;
-        }
-        self.differences += 1;
-        if self.differences <= 5 {
-            println!("difference at {input:?}\n  part      {part:?}\n  reference {reference:?}");
-        }
-    }
-
+impl Contracts {
     /// Counts, for each place, whether the answer would be another if halves went up there.
     fn count_halves(&mut self, is_another: impl Fn(HalvesUp) -> bool) {
         for (count, place) in self.halves.iter_mut().zip(PLACES) {
             *count += u64::from(is_another(HalvesUp(&[place])));
         }
     }
+}
 
-    fn print(&self, call: &str) {
-        println!("{call}: {} inputs, {} differences", self.inputs, self.differences);
-        println!("  refusals: {}", Self::list(&self.refusals));
+impl fmt::Display for Contracts {
+    fn fmt(&self, formatter: &mut fmt::Formatter<'_>) -> fmt::Result {
         if self.halves.iter().any(|count| *count > 0) {
             let halves: Vec<_> = PLACES.iter().zip(self.halves).map(|(place, count)| format!("{place:?}: {count}")).collect();
-            println!("  another answer with halves up: {}", halves.join(", "));
+            writeln!(formatter, "  another answer with halves up: {}", halves.join(", "))?;
         }
         if self.statuses.iter().any(|count| *count > 0) {
-            println!("  statuses: {}", Self::list(&self.statuses));
-            println!("  most marks in one input: {}", self.longest);
+            writeln!(formatter, "  statuses: {}", list(&self.statuses))?;
+            writeln!(formatter, "  most marks in one input: {}", self.longest)?;
         }
         let Rests { no_rate_now, cost_nothing, halves } = self.rests;
         if no_rate_now + cost_nothing + halves > 0 {
-            println!("  refused 5 for the age now: {no_rate_now}, cost nothing: {cost_nothing}, halves up to odd: {halves}");
+            write!(formatter, "  refused 5 for the age now: {no_rate_now}, ")?;
+            writeln!(formatter, "cost nothing: {cost_nothing}, halves up to odd: {halves}")?;
         }
+        Ok(())
     }
+}
 
-    fn list(counts: &[u64]) -> String {
-        let met = counts.iter().enumerate().filter(|(_, count)| **count > 0);
-        met.map(|(number, count)| format!("{number}: {count}")).collect::<Vec<_>>().join(", ")
-    }
-
-    /// Every refusal of the call has been met, and no other. Number 6 has no input: the upper table has a rate wherever the
-    /// lower has one. Number 13 belongs to contract records and 15 to the case file, which have no call.
-    fn assert_met(&self, refusals: &[usize]) {
-        for number in 0..self.refusals.len() {
-            assert_eq!(self.refusals[number] > 0, refusals.contains(&number), "refusal {number}");
-        }
-    }
+/// Memory of which a piece that holds the marks is lent.
+fn lent_marks(random: &mut Random, marks: &[u8]) -> Lent {
+    let mut lent = Lent::new(random, marks.len());
+    lent.piece().copy_from_slice(marks);
+    lent
 }
 
 /// One quote: its value, and all the memory it was lent.
 fn compare_quote(random: &mut Random, tally: &mut Tally, terms: &Terms, existing: u64, last_number: u32, length: usize) {
     let mut out = Lent::new(random, length);
-    let mut expected = out.bytes.clone();
     let answer = reference::quote(terms, existing, last_number);
-    let value = if length < raw::QUOTE_BYTES { raw::SHORT_BUFFER } else { answer.refusal };
-    if length >= raw::QUOTE_BYTES {
-        expected[out.start..out.start + raw::QUOTE_BYTES].copy_from_slice(&answer.bytes());
-    }
+    let (value, expected) = out.expected(answer.refusal, &answer.bytes());
     let given = raw::quote(&Numbers::from(terms.numbers()), existing, last_number, out.piece());
-    tally.inputs += 1;
-    tally.refusals[value as usize] += 1;
+    tally.count(value);
     if value == 0 {
-        tally.count_halves(|up| up.contribution(terms) != answer.contribution);
+        tally.met.count_halves(|up| up.contribution(terms) != answer.contribution);
     }
     tally.compare((terms, existing, last_number, length), (given, out.bytes), (value, expected));
 }
 
 /// One settlement: its value, and all the memory it was lent, marks included.
 fn compare_settle(random: &mut Random, tally: &mut Tally, terms: &Terms, marks: &[u8], length: usize) {
-    let mut lent_marks = Lent::holding(random, marks);
+    let mut lent_marks = lent_marks(random, marks);
     let marks_before = lent_marks.bytes.clone();
     let mut out = Lent::new(random, length);
-    let mut expected = out.bytes.clone();
     let answer = reference::settle(terms, marks);
-    let value = if length < raw::SETTLE_BYTES { raw::SHORT_BUFFER } else { answer.refusal };
-    if length >= raw::SETTLE_BYTES {
-        expected[out.start..out.start + raw::SETTLE_BYTES].copy_from_slice(&answer.bytes());
-    }
+    let (value, expected) = out.expected(answer.refusal, &answer.bytes());
     let given = raw::settle(&Numbers::from(terms.numbers()), lent_marks.piece(), out.piece());
-    tally.inputs += 1;
-    tally.refusals[value as usize] += 1;
-    tally.longest = tally.longest.max(marks.len());
+    tally.count(value);
+    tally.met.longest = tally.met.longest.max(marks.len());
     if value == 0 {
-        tally.statuses[answer.status as usize] += 1;
-        tally.count_halves(|up| up.contribution(terms) != answer.contribution || up.credit(terms, marks) != answer.credit);
+        tally.met.statuses[answer.status as usize] += 1;
+        tally.met.count_halves(|up| up.contribution(terms) != answer.contribution || up.credit(terms, marks) != answer.credit);
     }
     tally.compare((terms, marks, length), (given, out.bytes, lent_marks.bytes), (value, expected, marks_before));
 }
@@ -183,27 +116,22 @@ fn compare_pay_off(
     increase: u32,
     length: usize,
 ) {
-    let mut lent_marks = Lent::holding(random, marks);
+    let mut lent_marks = lent_marks(random, marks);
     let marks_before = lent_marks.bytes.clone();
     let mut out = Lent::new(random, length);
-    let mut expected = out.bytes.clone();
     let answer = reference::pay_off(terms, marks, age_now, increase);
-    let value = if length < raw::PAY_OFF_BYTES { raw::SHORT_BUFFER } else { answer.refusal };
-    if length >= raw::PAY_OFF_BYTES {
-        expected[out.start..out.start + raw::PAY_OFF_BYTES].copy_from_slice(&answer.bytes());
-    }
+    let (value, expected) = out.expected(answer.refusal, &answer.bytes());
     let given = raw::pay_off(&Numbers::from(terms.numbers()), lent_marks.piece(), age_now, increase, out.piece());
-    tally.inputs += 1;
-    tally.refusals[value as usize] += 1;
-    tally.longest = tally.longest.max(marks.len());
+    tally.count(value);
+    tally.met.longest = tally.met.longest.max(marks.len());
     let settled = reference::settle(terms, marks);
     if value == 0 {
-        tally.statuses[settled.status as usize] += 1;
-        tally.rests.cost_nothing += u64::from(answer.cost == 0);
-        tally.rests.halves += u64::from(answer.remaining * u64::from(increase) % 2_000 == 500);
-        tally.count_halves(|up| up.credit(terms, marks) != settled.credit);
+        tally.met.statuses[settled.status as usize] += 1;
+        tally.met.rests.cost_nothing += u64::from(answer.cost == 0);
+        tally.met.rests.halves += u64::from(answer.remaining * u64::from(increase) % 2_000 == 500);
+        tally.met.count_halves(|up| up.credit(terms, marks) != settled.credit);
     }
-    tally.rests.no_rate_now += u64::from(value == 5 && settled.refusal == 0);
+    tally.met.rests.no_rate_now += u64::from(value == 5 && settled.refusal == 0);
     let input = (terms, marks, age_now, increase, length);
     tally.compare(input, (given, out.bytes, lent_marks.bytes), (value, expected, marks_before));
 }
@@ -238,9 +166,9 @@ fn made_up_inputs() {
     settlements.print("made-up settlements");
     quotes.assert_met(&[0, 1, 2, 3, 4, 5, 7, 8, 9, 14]);
     settlements.assert_met(&[0, 1, 2, 3, 4, 5, 7, 8, 10, 11, 12, 14]);
-    assert!(settlements.statuses.iter().all(|count| *count > 0), "every status is met");
-    assert_eq!(quotes.halves.map(|count| count > 0), [true, false, false, false]);
-    assert_eq!(settlements.halves.map(|count| count > 0), [true; 4]);
+    assert!(settlements.met.statuses.iter().all(|count| *count > 0), "every status is met");
+    assert_eq!(quotes.met.halves.map(|count| count > 0), [true, false, false, false]);
+    assert_eq!(settlements.met.halves.map(|count| count > 0), [true; 4]);
     assert_eq!(quotes.differences + settlements.differences, 0);
 }
 
@@ -264,11 +192,11 @@ fn made_up_pay_offs() {
     }
     pay_offs.print("made-up pay-offs");
     pay_offs.assert_met(&PAY_OFF_REFUSALS);
-    assert!(pay_offs.refusals[5] > pay_offs.rests.no_rate_now, "refused 5 for the election too");
-    assert_eq!(pay_offs.statuses.map(|count| count > 0), [false, true, true, true, true, false, false]);
-    let Rests { no_rate_now, cost_nothing, halves } = pay_offs.rests;
-    assert!(no_rate_now > 0 && cost_nothing > 0 && halves > 0, "{:?}", pay_offs.rests);
-    assert_eq!(pay_offs.halves.map(|count| count > 0), [false, true, true, true]);
+    assert!(pay_offs.refusals[5] > pay_offs.met.rests.no_rate_now, "refused 5 for the election too");
+    assert_eq!(pay_offs.met.statuses.map(|count| count > 0), [false, true, true, true, true, false, false]);
+    let Rests { no_rate_now, cost_nothing, halves } = pay_offs.met.rests;
+    assert!(no_rate_now > 0 && cost_nothing > 0 && halves > 0, "{:?}", pay_offs.met.rests);
+    assert_eq!(pay_offs.met.halves.map(|count| count > 0), [false, true, true, true]);
     assert_eq!(pay_offs.differences, 0);
 }
 
@@ -299,8 +227,8 @@ fn every_election() {
     }
     quotes.print("every election, quoted");
     settlements.print("every election, settled");
-    assert_eq!(quotes.halves.map(|count| count > 0), [true, false, false, false]);
-    assert_eq!(settlements.halves.map(|count| count > 0), [true; 4]);
+    assert_eq!(quotes.met.halves.map(|count| count > 0), [true, false, false, false]);
+    assert_eq!(settlements.met.halves.map(|count| count > 0), [true; 4]);
     assert_eq!(quotes.differences + settlements.differences, 0);
 }
 

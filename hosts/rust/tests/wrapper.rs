@@ -38,6 +38,31 @@ fn a_pay_off() {
     assert_eq!(pay_off(&TERMS, &[PAID; 60], 55, 1_011).unwrap(), nothing);
 }
 
+/// Three candidates with falling B, of which the last has room.
+const APPLICATION: Application = Application {
+    npa: 68,
+    age: 35,
+    pay: 70_000,
+    factors: [850, 896, 946],
+    existing: Pension(2_000_00),
+    limit: Pension(6_924_00),
+};
+
+#[test]
+fn a_reduction_limit() {
+    let [first, second, third] = [9_117_97, 6_630_51, 3_607_13].map(Pension);
+    let limit = |existing, limit| reduction_limit(&Application { existing, limit, ..APPLICATION }).unwrap();
+    let given = |age, potentials| ReductionLimit { age, potentials };
+    assert_eq!(reduction_limit(&APPLICATION), Ok(given(Some(67), [first, second, third])));
+    assert_eq!(limit(Pension(1), Pension(first.0 + 2)), given(Some(65), [first, Pension(0), Pension(0)]));
+    assert_eq!(limit(Pension(1), Pension(first.0 + 1)), given(Some(66), [first, second, Pension(0)]));
+    assert_eq!(limit(Pension(0), Pension(0)), given(Some(65), [first, Pension(0), Pension(0)]));
+    // No scope: after three, and after one at pension age 66.
+    assert_eq!(limit(Pension(1), Pension(0)), given(None, [first, second, third]));
+    let at_66 = reduction_limit(&Application { npa: 66, ..APPLICATION });
+    assert_eq!(at_66, Ok(given(None, [first, Pension(0), Pension(0)])));
+}
+
 #[test]
 fn every_status() {
     let lump_sum = Terms { term: 0, payer: Payer::Employer, ..TERMS };
@@ -98,6 +123,31 @@ fn refused_pay_offs() {
     assert_eq!(refused[1], Refusal::UnknownMark { place: 1 });
     assert_eq!(refused[2].to_string(), "the contract has nothing to pay off");
     assert_eq!(refused[5].to_string(), "the increase is outside its range");
+}
+
+#[test]
+fn refused_applications() {
+    let sound = APPLICATION;
+    let above = Pension(1_000_000_01);
+    let refused = [
+        Application { npa: 65, ..sound },
+        Application { npa: 71, ..sound },
+        Application { age: 23, ..sound },
+        Application { age: 65, ..sound },
+        Application { pay: 0, ..sound },
+        Application { pay: 200_001, ..sound },
+        Application { factors: [1_001, 896, 946], ..sound },
+        // Neither of the last two candidates is reached.
+        Application { npa: 66, factors: [850, 896, 1_001], existing: Pension(0), ..sound },
+        Application { existing: above, ..sound },
+        Application { limit: above, ..sound },
+        Application { npa: u32::MAX, age: u32::MAX, pay: u32::MAX, factors: [u32::MAX; 3], existing: above, limit: above },
+    ];
+    for application in refused {
+        assert_eq!(reduction_limit(&application), Err(Refusal::Application), "{application:?}");
+    }
+    assert_eq!(Refusal::Application.number(), 18);
+    assert_eq!(Refusal::Application.to_string(), "a number of the application is outside its range");
 }
 
 #[test]

@@ -2,8 +2,14 @@
 
 use std::cmp::Ordering;
 
-/// `numerator ÷ denominator` to the nearest whole number, a half going up: both roundings of a pay-off.
+/// `numerator ÷ denominator` to the nearest whole number, a half going up: both roundings of a pay-off, and each year of the power
+/// in a reduction limit.
 pub fn half_up(numerator: u64, denominator: u64) -> u64 {
+    (2 * numerator + denominator) / (2 * denominator)
+}
+
+/// The same of greater numbers: the potential value of a reduction buy-out.
+pub fn half_up_wide(numerator: u128, denominator: u128) -> u128 {
     (2 * numerator + denominator) / (2 * denominator)
 }
 

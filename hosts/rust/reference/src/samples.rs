@@ -3,6 +3,10 @@
 use crate::marks::{ENDED, MISSED, PAID};
 use crate::terms::Terms;
 
+mod applications;
+
+pub use applications::{application, half_penny_pay, lawful_application};
+
 /// A small generator of pseudo-random numbers (splitmix64).
 pub struct Random(u64);
 

@@ -1,7 +1,8 @@
-//! The worked examples of document 000, and those of paying off in document 001.
+//! The worked examples of document 000, those of paying off in document 001, and those of the reduction limit in document 003.
 
 use reference::credit::{month_value, row};
 use reference::pay_off::{cost, increased};
+use reference::reduction::room;
 use reference::rounding::blend;
 use reference::*;
 
@@ -123,4 +124,32 @@ fn document_001_example_5_at_the_rates_of_document_000() {
     let terms = Terms { age: 60, pension_age_years: 66, pension_age_months: 5, option: 1, term: 4, amount: 1_500, ..MEMBER };
     let paid_off = pay_off(&terms, &[1; 9], 61, 1_011);
     assert_eq!(paid_off, PayOff { remaining: 1_190_83, increased: 1_203_93, cost: 18_299_74, ..PayOff::default() });
+}
+
+/// Examples A to C of document 003 have the limit of 2019-20.
+const APPLICATION: Application =
+    Application { npa: 67, age: 50, pay: 30_000, factors: [896, 946, 1_000], existing: 4_000_00, limit: 6_924_00 };
+
+/// The document gives no age, pay or factor here, and no B.
+#[test]
+fn document_003_example_a_no_existing_pension() {
+    for (age, pay) in [(24, 200_000), (50, 30_000), (64, 1)] {
+        assert_eq!(reduction_limit(&Application { age, pay, existing: 0, ..APPLICATION }).age, 65);
+    }
+}
+
+#[test]
+fn document_003_example_b_the_first_candidate() {
+    let expected = ReductionLimit { refusal: 0, age: 65, potentials: [1_083_53, 0, 0] };
+    assert_eq!(reduction_limit(&APPLICATION), expected);
+    assert_eq!(room(1_083_53, 4_000_00, 6_924_00), 2_924_00);
+}
+
+#[test]
+fn document_003_example_c_the_third_candidate() {
+    let application =
+        Application { npa: 68, age: 35, pay: 70_000, factors: [850, 896, 946], existing: 2_000_00, ..APPLICATION };
+    let potentials = [9_117_97, 6_630_51, 3_607_13];
+    assert_eq!(reduction_limit(&application), ReductionLimit { refusal: 0, age: 67, potentials });
+    assert_eq!(potentials.map(|potential| room(potential, 2_000_00, 6_924_00)), [7_117_97, 4_924_00, 4_924_00]);
 }

@@ -233,6 +233,17 @@ fn stored_pay_offs() {
 }
 
 #[test]
+fn stored_reduction_limits() {
+    compare("reduction-limit", 30, |asked: [u64; 8]| {
+        let [npa, age, pay, first, second, third] = asked.first_chunk().expect("eight numbers are asked").map(narrow);
+        let factors = [first, second, third];
+        let application = Application { npa, age, pay, factors, existing: asked[6], limit: asked[7] };
+        let ReductionLimit { refusal, age, potentials: [first, second, third] } = reduction_limit(&application);
+        format!("refusal {refusal} age {age} first {first} second {second} third {third}")
+    });
+}
+
+#[test]
 fn stored_quotes() {
     compare("quote", 43, |asked: [u64; 9]| {
         let Quote { refusal, contribution, next_number, register } = quote(&terms(&asked), asked[7], narrow(asked[8]));
@@ -253,7 +264,7 @@ fn stored_rates_and_roundings() {
 /// No stored figure is left out above.
 #[test]
 fn every_stored_figure_is_of_a_kind() {
-    let kinds = ["schedule", "cap", "settle", "pay-off", "quote", "rate", "nearest", "blend"];
+    let kinds = ["schedule", "cap", "settle", "pay-off", "reduction-limit", "quote", "rate", "nearest", "blend"];
     for line in stored("figures").lines() {
         let (label, _) = read_figure(line);
         assert!(kinds.contains(&kind_of(&label)), "{line:?}");
