@@ -1,7 +1,8 @@
 /*
- * Additional Pension of the HSC Pension Scheme 2015: quoting an election, settling a contract and paying off its rest.
+ * Additional Pension of the HSC Pension Scheme 2015: quoting an election, settling a contract and paying off its rest; and the
+ * limit on buying out the reduction of an early pension.
  *
- * Link with libhost.a (x86-64). The three functions are proved to keep the scheme's rules for every number they are given. They
+ * Link with libhost.a (x86-64). The four functions are proved to keep the scheme's rules for every number they are given. They
  * allocate nothing, keep nothing between calls and end for every input; calls from several threads do not disturb each other.
  *
  * What a caller owes. Of the numbers, nothing: every number has an answer, and what the scheme does not allow is refused. Of
@@ -11,7 +12,7 @@
  *
  * Money in the results is in whole pence, each rounding to the nearest. An exact half goes to the even penny in a contribution,
  * a whole-year credit, the value at a month and the combined credits of two tables; it goes up in the increased pension and
- * the cost of a pay-off.
+ * the cost of a pay-off, and in the B of a reduction limit.
  */
 #ifndef ADDITIONAL_PENSION_H
 #define ADDITIONAL_PENSION_H
@@ -57,6 +58,7 @@ extern "C" {
 #define AP_REFUSED_SHORT_BUFFER 14u  /* the buffer is too short; it keeps its bytes */
 #define AP_REFUSED_NOTHING_TO_PAY_OFF 16u  /* ap_pay_off: the status is 0, 5 or 6 */
 #define AP_REFUSED_INCREASE 17u      /* ap_pay_off: the increase is not from 1,000 to 9,999 */
+#define AP_REFUSED_APPLICATION 18u   /* ap_reduction_limit: a number is outside the range that stands with the function */
 
 /* Statuses of a settled contract. */
 #define AP_STATUS_NOT_STARTED 0u  /* monthly, no marks */
@@ -89,6 +91,14 @@ extern "C" {
 #define AP_PAY_OFF_INCREASED 24u  /* pence of pension a year: the same after the increase */
 #define AP_PAY_OFF_COST 32u       /* pence, as a lump sum */
 #define AP_PAY_OFF_BYTES 40u
+
+/* A reduction limit's result: five numbers of 8 bytes, low byte first, at these offsets. */
+#define AP_REDUCTION_LIMIT_REFUSAL 0u
+#define AP_REDUCTION_LIMIT_AGE 8u        /* the candidate that is taken, 0 for no scope */
+#define AP_REDUCTION_LIMIT_B_FIRST 16u   /* pence of pension a year: B of the first candidate */
+#define AP_REDUCTION_LIMIT_B_SECOND 24u  /* the same of the second, 0 if it was not tried */
+#define AP_REDUCTION_LIMIT_B_THIRD 32u   /* the same of the third, 0 if it was not tried */
+#define AP_REDUCTION_LIMIT_BYTES 40u
 
 /*
  * Quotes an election.
@@ -150,6 +160,39 @@ uint32_t ap_settle(uint32_t age, uint32_t pnpa_years, uint32_t pnpa_months, uint
 uint32_t ap_pay_off(uint32_t age, uint32_t pnpa_years, uint32_t pnpa_months, uint32_t option, uint32_t payer,
                     uint32_t term, uint32_t amount, const uint8_t *marks, size_t marks_len,
                     uint32_t age_now, uint32_t increase, uint8_t *out, size_t out_len);
+
+/*
+ * Finds the earliest reduced retirement age that a member may choose when buying out the reduction of an early pension.
+ *
+ *   npa                     normal pension age, whole years: 66 to 70
+ *   age                     whole years: 24 to 64
+ *   pay                     whole pounds a year: 1 to 200,000
+ *   erf_first to erf_third  early-retirement factor for the years from each candidate to npa, in thousandths: 0 to 1,000
+ *   existing_pence          A, the Additional Pension that the member has, pence a year: up to 1,000,000 pounds
+ *   limit_pence             L, the overall limit on extra pension, pence a year: up to 1,000,000 pounds
+ *   out, out_len            where the result goes
+ *
+ * The candidates are the higher of 65 and npa - 3, then one and two years later. B of a candidate is the greatest value, in
+ * pension a year, that a buy-out up to it could come to: the years to it, times pay, times 1.015 to the power of those years,
+ * times 1 less its factor, divided by 54. The power is kept in billionths, rounded each year; B is rounded once, and lies
+ * within 2 pence of its exact value.
+ *
+ * Where A is 0, the first candidate is taken, whatever L is. Otherwise the first one below npa is taken whose B is below C, the
+ * greater of B - A and L - A, which may be below zero; where B and C are equal, the next is tried. There is no scope where the
+ * next candidate is at npa, or where all three have failed.
+ *
+ * All three factors are looked at, also where a candidate is not tried. For a candidate at or past npa (the second and third of
+ * 66, the third of 67) any number up to 1,000 does.
+ *
+ * If out_len is below 40, the value is 14 and nothing is written. Otherwise the value is the refusal (0 or 18), and exactly the
+ * first 40 bytes of out are written: the refusal, the age, and B of the first, second and third candidate. The age is 0 for no
+ * scope, which is not a refusal. A B is 0 for a candidate that is not tried: one after the one taken, or at npa or past it. A
+ * refusal gives 0 for all after it.
+ *
+ * Order of refusals: 14, then 18.
+ */
+uint32_t ap_reduction_limit(uint32_t npa, uint32_t age, uint32_t pay, uint32_t erf_first, uint32_t erf_second, uint32_t erf_third,
+                            uint64_t existing_pence, uint64_t limit_pence, uint8_t *out, size_t out_len);
 
 #ifdef __cplusplus
 }

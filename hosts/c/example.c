@@ -1,7 +1,7 @@
 /*
- * Quotes, settles and pays off a few contracts and prints how each stands. Every buffer and every list of marks is a piece of
- * memory of just the length that is passed (of one byte where that is 0), so that a memory checker sees a byte read or written
- * beyond it.
+ * Quotes, settles and pays off a few contracts and prints how each stands; then finds a few reduction limits. Every buffer and
+ * every list of marks is a piece of memory of just the length that is passed (of one byte where that is 0), so that a memory
+ * checker sees a byte read or written beyond it.
  */
 #include "additional_pension.h"
 
@@ -15,11 +15,17 @@ struct terms {
     uint32_t age, pnpa_years, pnpa_months, option, payer, term, amount;
 };
 
+struct application {
+    const char *name;
+    uint32_t npa, age, pay, erf_first, erf_second, erf_third;
+    uint64_t existing_pence, limit_pence;
+};
+
 static const char *const REFUSALS[] = {
     "not refused",      "option",           "pension age",   "term",        "payer",
     "no rate",          "no upper rate",    "amount",        "cap",         "last number",
     "number of marks",  "value of a mark",  "order of marks", "",           "short buffer",
-    "",                 "nothing to pay off", "increase",
+    "",                 "nothing to pay off", "increase",     "application",
 };
 
 static const char *const STATUSES[] = {
@@ -55,6 +61,11 @@ static uint64_t number(const uint8_t *result, size_t offset)
 static void print_money(const char *name, uint64_t pence)
 {
     printf("  %-14s%8" PRIu64 ".%02" PRIu64 "\n", name, pence / 100, pence % 100);
+}
+
+static void print_thousandths(uint32_t thousandths)
+{
+    printf(" %" PRIu32 ".%03" PRIu32, thousandths / 1000, thousandths % 1000);
 }
 
 static void print_terms(const struct terms *terms)
@@ -154,7 +165,9 @@ static void pay_off(const struct terms *terms, const char *digits, uint32_t age_
     printf("Pay off: ");
     print_terms(terms);
     print_marks(digits);
-    printf("  age now %" PRIu32 ", increase %" PRIu32 ".%03" PRIu32 "\n", age_now, increase / 1000, increase % 1000);
+    printf("  age now %" PRIu32 ", increase", age_now);
+    print_thousandths(increase);
+    printf("\n");
     if (refusal != AP_REFUSED_NOTHING) {
         print_refusal(refusal, number(result, AP_PAY_OFF_PLACE));
     } else {
@@ -162,6 +175,48 @@ static void pay_off(const struct terms *terms, const char *digits, uint32_t age_
         print_money("increased", number(result, AP_PAY_OFF_INCREASED));
         print_money("cost", number(result, AP_PAY_OFF_COST));
         printf("\n");
+    }
+    free(result);
+}
+
+/* Finds a reduction limit. The value is the refusal. */
+static uint32_t limit_into(const struct application *application, uint8_t *result, size_t length)
+{
+    return ap_reduction_limit(application->npa, application->age, application->pay, application->erf_first,
+                              application->erf_second, application->erf_third, application->existing_pence,
+                              application->limit_pence, result, length);
+}
+
+static void print_application(const struct application *application)
+{
+    printf("%s\n  pension age %" PRIu32 ", age %" PRIu32 ", pay %" PRIu32 " pounds a year, factors", application->name,
+           application->npa, application->age, application->pay);
+    print_thousandths(application->erf_first);
+    print_thousandths(application->erf_second);
+    print_thousandths(application->erf_third);
+    printf("\n");
+    print_money("existing", application->existing_pence);
+    print_money("limit", application->limit_pence);
+}
+
+/* Finds a reduction limit and prints it. */
+static void reduction_limit(const struct application *application)
+{
+    uint8_t *result = memory(AP_REDUCTION_LIMIT_BYTES);
+    uint32_t refusal = limit_into(application, result, AP_REDUCTION_LIMIT_BYTES);
+    printf("Reduction limit: ");
+    print_application(application);
+    if (refusal != AP_REFUSED_NOTHING) {
+        printf("  refused %" PRIu32 ": %s\n\n", refusal, REFUSALS[refusal]);
+    } else {
+        uint64_t age = number(result, AP_REDUCTION_LIMIT_AGE);
+        print_money("B, first", number(result, AP_REDUCTION_LIMIT_B_FIRST));
+        print_money("B, second", number(result, AP_REDUCTION_LIMIT_B_SECOND));
+        print_money("B, third", number(result, AP_REDUCTION_LIMIT_B_THIRD));
+        if (age == 0)
+            printf("  no scope\n\n");
+        else
+            printf("  earliest age %12" PRIu64 "\n\n", age);
     }
     free(result);
 }
@@ -184,9 +239,9 @@ static void print_kept(const char *call, uint32_t refusal, const uint8_t *result
 }
 
 /* Buffers that are a byte too short keep what they hold. */
-static void short_buffers(const struct terms *terms)
+static void short_buffers(const struct terms *terms, const struct application *application)
 {
-    size_t settled = AP_SETTLE_BYTES - 1, paid_off = AP_PAY_OFF_BYTES - 1;
+    size_t settled = AP_SETTLE_BYTES - 1, paid_off = AP_PAY_OFF_BYTES - 1, limited = AP_REDUCTION_LIMIT_BYTES - 1;
     uint8_t *result = untouched(settled);
     print_kept("Settle", settle_into(terms, "", result, settled), result, settled);
     free(result);
@@ -194,6 +249,11 @@ static void short_buffers(const struct terms *terms)
     printf("\n");
     result = untouched(paid_off);
     print_kept("Pay off", pay_off_into(terms, "", 65, 999, result, paid_off), result, paid_off);
+    free(result);
+
+    printf("\n");
+    result = untouched(limited);
+    print_kept("Reduction limit", limit_into(application, result, limited), result, limited);
     free(result);
 }
 
@@ -208,6 +268,12 @@ int main(void)
     const struct terms lump_sum = {"lump sum, personal", 40, 68, 0, AP_OPTION_PERSONAL, AP_PAYER_EMPLOYER,
                                    AP_TERM_LUMP_SUM, 2000};
     const struct terms no_multiple = {"not a multiple", 50, 65, 0, AP_OPTION_WITH_DEPENDANT, AP_PAYER_MEMBER, 5, 1100};
+    const struct application first_taken = {"room for the first age", 67, 50, 30000, 896, 946, 1000, 400000, 692400};
+    const struct application third_taken = {"room for the third age", 68, 35, 70000, 850, 896, 946, 200000, 692400};
+    const struct application no_existing = {"no existing pension", 68, 35, 70000, 850, 896, 946, 0, 692400};
+    const struct application used_up = {"limit just used up", 68, 35, 70000, 850, 896, 946, 200000, 560713};
+    const struct application one_age = {"one age below the pension age", 66, 35, 70000, 896, 1000, 1000, 200000, 692400};
+    const struct application no_factor = {"a factor above 1", 66, 35, 70000, 896, 1000, 1001, 200000, 692400};
     uint32_t last_number = 41;
 
     quote(&nine_years, 0, &last_number);
@@ -240,6 +306,13 @@ int main(void)
     pay_off(&five_years, "111111111111111111", 51, 10000);
     pay_off(&five_years, "111111111111111111", 65, 1011);
 
-    short_buffers(&five_years);
+    reduction_limit(&first_taken);
+    reduction_limit(&third_taken);
+    reduction_limit(&no_existing);
+    reduction_limit(&used_up);
+    reduction_limit(&one_age);
+    reduction_limit(&no_factor);
+
+    short_buffers(&five_years, &no_factor);
     return EXIT_SUCCESS;
 }

@@ -33,7 +33,8 @@ struct Scopes {
     limit_below: u64,
     /// With existing pension, and a C below zero.
     below_zero: u64,
-    /// With a B that is half a penny more than an even number before its rounding: it goes up, and would go down to the even penny.
+    /// With a B that is half a penny more than an even number before its rounding: it goes up, and would go down to the even
+    /// penny.
     halves: u64,
 }
 
@@ -128,8 +129,8 @@ fn made_up_reduction_limits() {
     assert_eq!(limits.differences, 0);
 }
 
-/// Existing pensions with limits: every choice of some that matter anywhere, and for each candidate the limits at which it is just
-/// not taken and just taken.
+/// Existing pensions with limits: every choice of some that matter anywhere, and for each candidate the limits about the one at
+/// which its B is equal to C.
 fn limits_about(application: &Application) -> Vec<(u64, u64)> {
     let some = [0, 1, 2_000_00, 6_924_00, MOST_PENCE, MOST_PENCE + 1];
     let mut pairs: Vec<(u64, u64)> = some.iter().flat_map(|&existing| some.map(|limit| (existing, limit))).collect();

@@ -1,15 +1,9 @@
 //! Time per call of Settle, Quote and the pay-off.
 
+use crate::timing::{self, Answer, INPUTS};
 use additional_pension::raw::{self, Numbers};
 use reference::samples::Random;
 use reference::Terms;
-use std::hint::black_box;
-use std::time::{Duration, Instant};
-
-/// Different contracts of one kind, so that no call finds everything as the one before left it.
-const CONTRACTS: usize = 64;
-const ROUNDS: usize = 15;
-const ROUND: Duration = Duration::from_millis(15);
 
 struct Contract {
     terms: Terms,
@@ -108,10 +102,10 @@ fn contracts(kind: &Kind) -> Vec<Contract> {
         (kind.change)(&mut contract);
         contract
     };
-    (0..CONTRACTS).map(make).collect()
+    (0..INPUTS).map(make).collect()
 }
 
-fn part_call(call: Call, contract: &Contract, out: &mut [u8; raw::SETTLE_BYTES]) {
+fn part_call(call: Call, contract: &Contract, out: &mut Answer) {
     let terms = Numbers::from(contract.terms.numbers());
     match call {
         Call::Quote => raw::quote(&terms, contract.existing, contract.last_number, &mut out[..raw::QUOTE_BYTES]),
@@ -121,7 +115,7 @@ fn part_call(call: Call, contract: &Contract, out: &mut [u8; raw::SETTLE_BYTES])
 }
 
 /// The same work: an answer as bytes in a buffer.
-fn reference_call(call: Call, contract: &Contract, out: &mut [u8; raw::SETTLE_BYTES]) {
+fn reference_call(call: Call, contract: &Contract, out: &mut Answer) {
     match call {
         Call::Quote => {
             let answer = reference::quote(&contract.terms, contract.existing, contract.last_number);
@@ -135,23 +129,6 @@ fn reference_call(call: Call, contract: &Contract, out: &mut [u8; raw::SETTLE_BY
     }
 }
 
-/// Nanoseconds per call over one round of at least [`ROUND`].
-fn round(call: Call, contracts: &[Contract], run: fn(Call, &Contract, &mut [u8; raw::SETTLE_BYTES])) -> f64 {
-    let mut out = [0; raw::SETTLE_BYTES];
-    let mut calls = 0;
-    let start = Instant::now();
-    while start.elapsed() < ROUND {
-        for _ in 0..16 {
-            for contract in contracts {
-                run(call, black_box(contract), &mut out);
-                black_box(&mut out);
-            }
-        }
-        calls += 16 * contracts.len();
-    }
-    start.elapsed().as_nanos() as f64 / calls as f64
-}
-
 /// Both give the same answer, and it is what the kind says.
 fn check(kind: &Kind, contracts: &[Contract]) {
     for contract in contracts {
@@ -163,20 +140,14 @@ fn check(kind: &Kind, contracts: &[Contract]) {
     }
 }
 
-pub fn measure() {
-    println!("{:<32}{:>10}{:>12}{:>9}", "nanoseconds per call", "part", "reference", "ratio");
-    let mut lowest = f64::INFINITY;
-    for kind in &KINDS {
+/// Measures every kind. The value is the lowest ratio.
+pub fn measure() -> f64 {
+    let ratios = KINDS.iter().map(|kind| {
         let contracts = contracts(kind);
         check(kind, &contracts);
-        let (mut part, mut reference) = (f64::INFINITY, f64::INFINITY);
-        for _ in 0..ROUNDS {
-            part = part.min(round(kind.call, &contracts, part_call));
-            reference = reference.min(round(kind.call, &contracts, reference_call));
-        }
-        let ratio = reference / part;
-        lowest = lowest.min(ratio);
-        println!("{:<32}{part:>10.1}{reference:>12.1}{ratio:>9.2}", kind.name);
-    }
-    println!("lowest ratio of the calls: {lowest:.2}\n");
+        let part_call = |contract: &Contract, out: &mut Answer| part_call(kind.call, contract, out);
+        let reference_call = |contract: &Contract, out: &mut Answer| reference_call(kind.call, contract, out);
+        timing::measure(kind.name, &contracts, part_call, reference_call)
+    });
+    ratios.fold(f64::INFINITY, f64::min)
 }

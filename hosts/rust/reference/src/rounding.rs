@@ -1,4 +1,4 @@
-//! Rounding to whole pence.
+//! Rounding to whole numbers, of pence as a rule.
 
 use std::cmp::Ordering;
 
