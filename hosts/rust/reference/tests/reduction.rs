@@ -49,7 +49,7 @@ fn every_bound_from_both_sides() {
     assert_bounds(|member, factor| member.factors[0] = factor, &factors, &no_factors);
     assert_bounds(|member, factor| member.factors[1] = factor, &factors, &no_factors);
     assert_bounds(|member, factor| member.factors[2] = factor, &factors, &no_factors);
-    let (money, no_money) = ([0, 1, MOST_PENCE - 1, MOST_PENCE], [MOST_PENCE + 1, 1 << 32, 1 << 63, u64::MAX]);
+    let (money, no_money) = ([0, 1, 999_999_99, 1_000_000_00], [1_000_000_01, 1 << 32, 1 << 63, u64::MAX]);
     assert_bounds(|member, pence| member.existing = pence, &money, &no_money);
     assert_bounds(|member, pence| member.limit = pence, &money, &no_money);
 }
@@ -212,39 +212,50 @@ fn powers_year_by_year() {
     assert_eq!(power(45), 1_954_213_015);
 }
 
-/// Whether B is within so many pence of its exact value.
-fn is_potential_within(pence: u64, years: u32, pay: u32, factor: u32) -> bool {
+/// Whether a B is within so many pence of its exact value.
+fn is_potential_within(pence: u64, potential: u64, [years, pay, factor]: [u32; 3]) -> bool {
     let exact = [years, pay, 1_000 - factor, 100].iter().fold(Whole::one(), |product, &number| product.times(number.into()));
     let denominator = Whole::one().times(54 * 1_000).times_power(1_000, years);
-    is_within(pence, potential(years, pay, factor), exact.times_power(1_015, years), denominator)
+    is_within(pence, potential, exact.times_power(1_015, years), denominator)
+}
+
+/// Years, pay and a factor within their ranges.
+fn any_numbers(random: &mut Random) -> [u32; 3] {
+    [random.from_to(1, 45), random.from_to(1, 200_000), random.from_to(0, 1_000)]
 }
 
 #[test]
 fn potentials_are_near_the_exact_values() {
-    for years in 1..=45 {
-        for (pay, factor) in [1, 162, 30_000, 200_000].iter().flat_map(|&pay| [0, 1, 896, 999].map(|factor| (pay, factor))) {
-            assert!(is_potential_within(2, years, pay, factor), "{years} {pay} {factor}");
-        }
-        assert!(is_potential_within(0, years, 200_000, 1_000));
-    }
     let mut random = Random::new(SEED);
-    for _ in 0..20_000 {
-        let (years, pay, factor) = (random.from_to(1, 45), random.from_to(1, 200_000), random.from_to(0, 1_000));
-        assert!(is_potential_within(2, years, pay, factor), "{years} {pay} {factor}");
+    let mut all: Vec<[u32; 3]> = (0..20_000).map(|_| any_numbers(&mut random)).collect();
+    for (pay, factor) in [1, 162, 30_000, 200_000].iter().flat_map(|&pay| [0, 1, 896, 1_000].map(|factor| (pay, factor))) {
+        all.extend((1..=45).map(|years| [years, pay, factor]));
+    }
+    for numbers in all {
+        let [years, pay, factor] = numbers;
+        let potential = potential(years, pay, factor);
+        assert!(is_potential_within(2, potential, numbers), "{numbers:?}");
+        // The measure itself is not too wide.
+        assert!(!is_potential_within(2, potential + 4, numbers), "{numbers:?}");
+        assert!(potential < 4 || !is_potential_within(2, potential - 4, numbers), "{numbers:?}");
     }
 }
+
+/// B before its rounding, in parts of which [`PENNY`] are a penny.
+fn parts(years: u32, pay: u32, factor: u32) -> u128 {
+    [years, pay, 1_000 - factor].map(u128::from).iter().product::<u128>() * u128::from(power(years))
+}
+
+const PENNY: u128 = 54 * 10_000_000_000;
 
 /// B is rounded once from the power, to the nearest penny, and a half goes up.
 #[test]
 fn potentials_are_rounded_once() {
     let mut random = Random::new(SEED);
     for _ in 0..100_000 {
-        let (years, pay, factor) = (random.from_to(1, 45), random.from_to(1, 200_000), random.from_to(0, 1_000));
-        let parts = [years, pay, 1_000 - factor].iter().fold(u128::from(power(years)), |product, &n| product * u128::from(n));
-        let doubled = 2 * u128::from(potential(years, pay, factor));
-        // Pence are so many of these parts.
-        let penny = 54 * 10_000_000_000;
-        assert!(doubled * penny <= 2 * parts + penny && 2 * parts < (doubled + 1) * penny, "{years} {pay} {factor}");
+        let [years, pay, factor] = any_numbers(&mut random);
+        let (doubled, parts) = (2 * u128::from(potential(years, pay, factor)), parts(years, pay, factor));
+        assert!(doubled * PENNY <= 2 * parts + PENNY && 2 * parts < (doubled + 1) * PENNY, "{years} {pay} {factor}");
     }
     assert_eq!(potential(45, 200_000, 0), 325_702_17);
 }
@@ -262,10 +273,9 @@ fn halves_of_b_go_up() {
     assert_eq!(reduction_limit(&application), given(0, [1_02, 206_05, 0]));
 }
 
-/// Whether B is an exact half penny before its rounding.
+/// Whether B ends in an exact half penny before its rounding.
 fn is_half(years: u32, pay: u32, factor: u32) -> bool {
-    let parts = u128::from(power(years)) * u128::from(years) * u128::from(pay) * u128::from(1_000 - factor);
-    parts % (54 * 10_000_000_000) == 27 * 10_000_000_000
+    parts(years, pay, factor) % PENNY == PENNY / 2
 }
 
 /// Where some pay makes B an exact half penny.
