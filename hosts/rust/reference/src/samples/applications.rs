@@ -35,9 +35,9 @@ fn common_divisor(one: u64, other: u64) -> u64 {
     }
 }
 
-/// The least pay at which B is an exact half penny, if some pay is. The others are its odd multiples.
+/// The least pay at which B ends in exactly half a penny before its rounding, if there is one. The others are its odd multiples.
 pub fn half_penny_pay(years: u32, factor: u32) -> Option<u32> {
-    // A pound of pay gives so many parts, of which two halves make a penny.
+    // What a pound of pay gives, and half a penny, in the same parts.
     let parts = u64::from(years) * power(years) * u64::from(MOST_FACTOR - factor);
     let half = 27 * 10_000_000_000;
     let common = common_divisor(2 * half, parts);
@@ -45,8 +45,8 @@ pub fn half_penny_pay(years: u32, factor: u32) -> Option<u32> {
     (half.is_multiple_of(common) && PAYS.contains(&pay)).then_some(pay)
 }
 
-/// Makes the B of a candidate an exact half penny, where the pension age allows it. Within the range of ages some pay does so
-/// with 1, 2, 6 or 36 years to the candidate.
+/// Makes the B of a candidate end in exactly half a penny before its rounding, where the pension age allows it. There are pays for
+/// it with 1, 2, 6 and 36 years to the candidate alone.
 fn to_half_penny(random: &mut Random, application: &mut Application) {
     let place = random.from_to(0, 2);
     let years = random.pick(&[1, 1, 2, 2, 6, 36]);
