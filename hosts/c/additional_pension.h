@@ -187,7 +187,7 @@ uint32_t ap_pay_off(uint32_t age, uint32_t pnpa_years, uint32_t pnpa_months, uin
  * If out_len is below 40, the value is 14 and nothing is written. Otherwise the value is the refusal (0 or 18), and exactly the
  * first 40 bytes of out are written: the refusal, the age, and B of the first, second and third candidate. The age is 0 for no
  * scope, which is not a refusal. B is 0 for a candidate that is not tried (one after the one taken, at npa or past it), and
- * also for one that is tried with a factor of 1,000. A refusal gives 0 for all after it.
+ * also where it comes to less than half a penny, as with a factor of 1,000. A refusal gives 0 for all after it.
  *
  * Order of refusals: 14, then 18.
  */

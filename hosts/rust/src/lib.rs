@@ -97,8 +97,8 @@ pub struct ReductionLimit {
     /// The earliest reduced retirement age that the member may choose; nothing where there is no scope.
     pub age: Option<u32>,
     /// B of each candidate: the greatest value, in pension a year, that a buy-out up to it could come to. 0 for the candidates
-    /// that were not tried: those after the one that is taken, and those at the pension age or past it. With a factor of 1,000 it
-    /// is 0 too.
+    /// that were not tried: those after the one that is taken, and those at the pension age or past it. It is also 0 where it
+    /// comes to less than half a penny, as with a factor of 1,000.
     pub potentials: [Pension; 3],
 }
 

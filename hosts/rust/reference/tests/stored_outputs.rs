@@ -234,7 +234,7 @@ fn stored_pay_offs() {
 
 #[test]
 fn stored_reduction_limits() {
-    compare("reduction-limit", 30, |asked: [u64; 8]| {
+    compare("reduction-limit", 49, |asked: [u64; 8]| {
         let [npa, age, pay, first, second, third] = asked.first_chunk().expect("eight numbers are asked").map(narrow);
         let factors = [first, second, third];
         let application = Application { npa, age, pay, factors, existing: asked[6], limit: asked[7] };
