@@ -223,7 +223,7 @@ pub extern "C" fn ap_reduction_limit(
         existing: PensionPence(existing_pence),
         limit: PensionPence(limit_pence),
     };
-    let told = limit_numbers(reduction::reduction_limit(a));
-    number_bytes::put_all(out, &told);
-    told[0] as u32
+    let found = limit_numbers(reduction::reduction_limit(a));
+    number_bytes::put_all(out, &found);
+    found[0] as u32
 }

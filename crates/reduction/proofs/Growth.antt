@@ -3,22 +3,22 @@
 -- Assumes nothing.
 use mathlib.Core.List.{List, [], _∷_}
 use mathlib.Core.Path.{_≡_}
-use Prim.Native.Nat.{ℕ, _+_, _*_, _^_, _≤_}
+use Prim.Native.Nat.{ℕ, _+_, _*_, _≤_}
 use native.Mathlib.Nat.{one-le-pow}
 use native.Mathlib.Numerals.{add-one}
 use native.Mathlib.Omega.{arith}
 use lib.Dec.{T}
 use Rattle.common.proofs.Computed.{Rule, always, Hold, passes, hold, all, all-at}
 use Rattle.rounding.specs.Nearest.{halfUp}
-use Rattle.reduction.specs.Power.{billion, powerOf, NearPower}
+use Rattle.reduction.specs.Power.{powerOf, powerNum, powerDen, NearPower}
 use Rattle.reduction.proofs.Near.{near-wider}
 
 -- at most the power of 45 years; near from above and from below
 abbrev rules-of : ℕ → List Rule
 rules-of n =
     always (powerOf n) 1954213015
-    ∷ always (powerOf n * 1000 ^ n) (billion * 1015 ^ n + 2 * 1000 ^ n)
-    ∷ always (billion * 1015 ^ n) ((powerOf n + 2) * 1000 ^ n)
+    ∷ always (powerOf n * powerDen n) (powerNum n + 2 * powerDen n)
+    ∷ always (powerNum n) ((powerOf n + 2) * powerDen n)
     ∷ []
 
 years-pass : T (all (λ (n : ℕ). passes (rules-of n)) 0 46)

@@ -10,6 +10,13 @@ use Rattle.reduction.specs.Power.{billion, powerOf}
 unfoldable pub potentialOf : (years pay erf : ℕ) → ℕ
 potentialOf years pay erf = halfUp (years * (pay * 100) * powerOf years * (1000 - erf)) (54 * 1000 * billion)
 
--- b is within s pence of the exact value: with the exact power, 1015^years ÷ 1000^years, and nothing rounded
+-- the exact value in pence, a fraction: the exact power in its place, and nothing rounded
+abbrev pub potentialNum : (years pay erf : ℕ) → ℕ
+potentialNum years pay erf = years * (pay * 100) * 1015 ^ years * (1000 - erf)
+
+abbrev pub potentialDen : (years : ℕ) → ℕ
+potentialDen years = 54 * 1000 * 1000 ^ years
+
+-- b is within s pence of it
 abbrev pub NearPotential : (s years pay erf b : ℕ) → Type 0
-NearPotential s years pay erf b = Near s b (years * (pay * 100) * 1015 ^ years * (1000 - erf)) (54 * 1000 * 1000 ^ years)
+NearPotential s years pay erf b = Near s b (potentialNum years pay erf) (potentialDen years)

@@ -13,6 +13,13 @@ unfoldable pub powerOf : (years : ℕ) → ℕ
 powerOf zero = billion
 powerOf (suc n) = halfUp (powerOf n * 1015) 1000
 
--- p is within s billionths of the exact power, 1015^n ÷ 1000^n
+-- the exact power in billionths, a fraction: 1.015 is 1015 ÷ 1000
+abbrev pub powerNum : ℕ → ℕ
+powerNum n = billion * 1015 ^ n
+
+abbrev pub powerDen : ℕ → ℕ
+powerDen n = 1000 ^ n
+
+-- p is within s billionths of it
 abbrev pub NearPower : (s n p : ℕ) → Type 0
-NearPower s n p = Near s p (billion * 1015 ^ n) (1000 ^ n)
+NearPower s n p = Near s p (powerNum n) (powerDen n)

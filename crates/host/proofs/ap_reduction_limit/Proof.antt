@@ -7,7 +7,7 @@ use Rattle.host.proofs.ap_reduction_limit.Statement.{statement}
 use Rattle.host.proofs.ap_reduction_limit.Tie as tie
 
 returns : tie.Need-returns
-returns c = limit-short _ _ (c .if1 .taken)
+returns c = limit-short _ _ (omega (arith, c .if1 .taken))
 
 reduction-limit-requires : tie.Need-reduction-limit-requires
 reduction-limit-requires c κs = search needs
@@ -37,7 +37,7 @@ same-length c = search needs
 returns-2 : tie.Need-returns-2
 returns-2 c =
     let d = c .before .before .before .before .before in
-    limit-told _ _ (d .before .before .if1 .left) (d .before .reduction-limit .ensures .0) (d .limit-numbers .ensures)
+    limit-told _ _ (omega (arith, d .before .before .if1 .left)) (d .before .reduction-limit .ensures .0) (d .limit-numbers .ensures)
     (c .before .before .put-all .ensures)
 
 pub ap-reduction-limit-spec : {M : Type 1} → statement M

@@ -79,10 +79,13 @@ loop-holds c =
 
 returns-2 : tie.Need-returns-2 Inv-loop μ-loop
 returns-2 c =
-    near _ (past-npa _ (c .before .before .before .loop .inv) (c .before .before .loop-test .taken) (c .if2 .taken)) refl refl
+    let test = c .before .before in
+    near _ (past-npa _ (test .before .loop .inv) (omega (arith, test .loop-test .taken)) (omega (arith, c .if2 .taken))) refl refl
 
 sub-potential : tie.Need-sub-potential Inv-loop μ-loop
-sub-potential c = later _ (c .before .before .before .before .loop .inv)
+sub-potential c =
+    let b = c .before in
+    omega (arith, later _ (b .before .before .before .loop .inv), b .if2 .left)
 
 factor-requires : tie.Need-factor-requires Inv-loop μ-loop
 factor-requires c κs = search needs
@@ -107,7 +110,7 @@ returns-3 c =
     let b = found .before .before .before in
     let s = b .before .before .before .loop .inv in
     near _
-    (taken-here _ s (b .if2 .left) (b .before .before .loop-test .taken) (found .before .factor .ensures) (found .potential .ensures)
+    (taken-here _ s (b .if2 .left) (omega (arith, b .before .before .loop-test .taken)) (found .before .factor .ensures) (found .potential .ensures)
     (c .before .takes .ensures) (c .before .before .noted .ensures) (c .if3 .taken))
     refl (some-age _ s)
 
@@ -132,7 +135,7 @@ loop-again : tie.Need-loop-again Inv-loop μ-loop
 loop-again c =
     let found = c .before .before .before .before in
     let b = found .before .before .before in
-    one-further _ (b .before .before .before .loop .inv) (b .if2 .left) (b .before .before .loop-test .taken)
+    one-further _ (b .before .before .before .loop .inv) (b .if2 .left) (omega (arith, b .before .before .loop-test .taken))
     (found .before .factor .ensures) (found .potential .ensures) (c .before .before .takes .ensures) (c .before .before .before .noted .ensures)
     (c .before .if3 .left) (c .grown .ensures)
 
