@@ -1,4 +1,4 @@
--- Division with a rest, as both roundings use it.
+-- Division with a rest, as half to even uses it.
 -- Assumes nothing.
 use mathlib.Core.Path.{_≡_}
 use Prim.Native.Nat.{ℕ, _+_, _*_, _-_, _%_, _≤_, _<_}

@@ -5,19 +5,18 @@ ghost use Prim.Native.Nat.{_%_};
 ghost use Rattle.rounding.specs.HalfEven.{halfEven};
 ghost use Rattle.rounding.specs.Nearest.{halfUp, nearest, blend};
 
-// n ÷ d to the nearest whole number, a half going up; 0 where d is 0.
+// n ÷ d to the nearest whole number, a half going up; 0 where d is 0. From half of d on it is at least 1, and one more for each further d.
 pub fn half_up(n: u64, d: u64) -> u64
     ensures { λ r. ⌜ r ≡ halfUp n d ⌝ }
 {
     if d == 0 {
         return 0;
     }
-    let whole = n / d;
-    let rest = n % d;
-    if rest < d - rest {
-        return whole;
+    let half = d - d / 2;
+    if n < half {
+        return 0;
     }
-    whole + 1
+    (n - half) / d + 1
 }
 
 // 1 for an odd number, 0 for an even one.

@@ -1,13 +1,12 @@
--- `rounding::half_up` meets its contract: the whole part, and one more where the rest is at least half of the divisor.
+-- `rounding::half_up` meets its contract: 0 below half of the divisor, from there on 1 and one more for each further divisor.
 -- Assumes nothing.
-use mathlib.Core.Path.{_≡_, sym}
-use Prim.Native.Nat.{ℕ, _+_, _*_, _^_}
-use native.Mathlib.Nat.{div-zero, div-add-mod'}
+use mathlib.Core.Path.{_≡_, refl, sym}
+use Prim.Native.Nat.{ℕ, _+_, _*_, _-_, _/_}
+use native.Mathlib.Nat.{div-zero, div-le-self}
 use native.Mathlib.Omega.{arith}
 use borrow.Author.Needs.{needs}
 use Rattle.rounding.specs.Nearest.{halfUp}
-use Rattle.rounding.proofs.Division.{rest-low, room}
-use Rattle.rounding.proofs.HalfUp.{half-up-low, half-up-high}
+use Rattle.rounding.proofs.HalfUp.{half-up-first, half-up-further}
 use Rattle.rounding.proofs.half_up.Statement.{statement}
 use Rattle.rounding.proofs.half_up.Tie as tie
 
@@ -18,25 +17,23 @@ none n d e = rw e (sym (div-zero (2 * n + 0)))
 returns : tie.Need-returns
 returns c = none _ _ (c .if1 .taken)
 
-div-whole : tie.Need-div-whole
-div-whole c = search needs
-
-rem-rest : tie.Need-rem-rest
-rem-rest c = search needs
-
-sub-if2 : tie.Need-sub-if2
-sub-if2 c = omega (arith, rest-low (c .before .args .n) (c .before .args .d) (c .if1 .left))
+sub-half : tie.Need-sub-half
+sub-half c = search needs
 
 returns-2 : tie.Need-returns-2
-returns-2 c = half-up-low _ _ _ _ (div-add-mod' _ _) (c .if2 .taken)
+returns-2 c = half-up-first _ _ _ refl (c .if2 .taken)
+
+div-result : tie.Need-div-result
+div-result c = search needs
 
 add-result : tie.Need-add-result
 add-result c =
-    record { fits = room _ _ _ _ (2 ^ 63) (div-add-mod' _ _) (rest-low _ _ (c .before .if1 .left)) (c .if2 .left) (omega arith) (omega arith) }
+    let n = c .before .before .args .n in
+    let d = c .before .before .args .d in
+    omega (arith, div-le-self (n - (d - d / 2)) d, c .if2 .left, c .before .if1 .left)
 
 returns-3 : tie.Need-returns-3
-returns-3 c = half-up-high _ _ _ _ (div-add-mod' _ _) (rest-low _ _ (c .before .if1 .left)) (c .if2 .left)
+returns-3 c = half-up-further _ _ _ (omega (arith, c .before .if1 .left)) refl (c .if2 .left)
 
 pub half-up-spec : {M : Type 1} → statement M
-half-up-spec =
-    tie.close (tie.spec returns div-whole rem-rest sub-if2 returns-2 add-result returns-3)
+half-up-spec = tie.close (tie.spec returns sub-half returns-2 div-result add-result returns-3)
