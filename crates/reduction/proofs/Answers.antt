@@ -4,8 +4,8 @@ use mathlib.Core.Bool.{Bool, true, false, _&&_}
 use mathlib.Core.Path.{_≡_, refl}
 use Prim.Native.Nat.{ℕ, _+_, _<_}
 use native.Mathlib.Omega.{arith}
-use lib.Dec.{ltb, leb, eqb}
-use borrow.Author.Tests.{ltb-true, ltb-false, le-leb, lt-leb, eq-eqb, ne-eqb}
+use lib.Dec.{ltb, eqb}
+use borrow.Author.Tests.{ltb-true, ltb-false, le-leb, lt-leb, ne-eqb}
 use Rattle.common.specs.Choice.{pick}
 use Rattle.common.proofs.Tests.{by-test, or-true}
 use Rattle.money.specs.Money.{pension}
@@ -15,7 +15,7 @@ use Rattle.reduction.specs.Range.{InRange}
 use Rattle.reduction.specs.Search.{candidateOf, potentialAt, belowNpa, earliestAge}
 use Rattle.reduction.specs.Limit.{shownOf, answeredLimit, reductionLimitOf}
 use Rattle.reduction.proofs.Range.{not-out}
-use Rattle.reduction.proofs.Candidates.{candidate-least, candidates-rise, candidates-apart, below-npa, is-below}
+use Rattle.reduction.proofs.Candidates.{candidate-least, candidates-rise, candidates-apart, below-npa}
 
 -- B of candidate j where it is one of the first m, else 0
 unfoldable pub triedOf : Application → (m j : ℕ) → ℕ

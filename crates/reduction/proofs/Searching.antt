@@ -6,8 +6,7 @@ use Prim.Native.Nat.{ℕ, zero, suc, _+_, _*_, _-_, _^_, _≤_, _<_, max}
 use native.Mathlib.Numerals.{add-one}
 use native.Mathlib.Omega.{arith}
 use lib.Dec.{ltb}
-use borrow.Author.Tests.{lt-ltb, le-ltb, ltb-true, ltb-false}
-use Rattle.common.specs.Choice.{pick}
+use borrow.Author.Tests.{lt-ltb, ltb-true, ltb-false}
 use Rattle.common.proofs.Tests.{by-test}
 use Rattle.rounding.specs.Nearest.{halfUp}
 use Rattle.money.specs.Money.{pension}

@@ -1,9 +1,9 @@
 -- What holds of every reduction limit.
 -- Assumes nothing.
-use mathlib.Core.Bool.{Bool, true, false, _&&_}
-use mathlib.Core.Logic.{_⊎_, inl, inr, ⊎-elim}
-use mathlib.Core.Path.{_≡_, refl, sym, ap, subst, _∙_}
-use Prim.Native.Nat.{ℕ, zero, suc, _≤_, _<_}
+use mathlib.Core.Bool.{true, false}
+use mathlib.Core.Logic.{inl, inr, ⊎-elim}
+use mathlib.Core.Path.{_≡_, refl, sym, _∙_}
+use Prim.Native.Nat.{ℕ, zero, suc, _<_}
 use native.Mathlib.Omega.{arith}
 use lib.Dec.{leb, eqb}
 use borrow.Author.Tests.{eqb-true, leb-true, eq-eqb, le-leb, le-ltb}
@@ -12,7 +12,7 @@ use Rattle.reduction.specs.declared.Application.{Application}
 use Rattle.reduction.specs.Range.{outOfRange, InRange}
 use Rattle.reduction.specs.Search.{candidateOf, potentialAt, takesAt, belowNpa, searchFrom, earliestAge}
 use Rattle.reduction.specs.Limit.{LimitNumbers, shownOf, refusedLimit, reductionLimitOf}
-use Rattle.reduction.specs.Told.{EarliestPassing, NonePassing, givenFor, Shown, RefusedLimitTold, FoundTold}
+use Rattle.reduction.specs.Told.{givenFor, Shown, RefusedLimitTold, FoundTold}
 use Rattle.reduction.proofs.Range.{in-range, not-out}
 use Rattle.reduction.proofs.Headroom.{takes-none}
 use Rattle.reduction.proofs.Candidates.{below-npa, is-below, first-below, near-at}

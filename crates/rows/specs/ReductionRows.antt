@@ -4,7 +4,6 @@
 use mathlib.Core.List.{List, [], _∷_, _++_}
 use Prim.Native.Nat.{ℕ, _*_, _-_}
 use Rattle.money.specs.Money.{pension}
-use Rattle.reduction.specs.declared.Application.{Application}
 use Rattle.reduction.specs.Power.{powerOf}
 use Rattle.reduction.specs.Potential.{potentialOf}
 use Rattle.reduction.specs.Limit.{reductionLimitOf}

@@ -1,7 +1,6 @@
 -- `reduction::potential` meets its contract: each product fits, and the hundred that is cancelled does not matter.
 -- Assumes nothing.
-use mathlib.Core.Path.{_≡_, ap, _∙_}
-use Prim.Native.Nat.{ℕ, _*_, _-_}
+use mathlib.Core.Path.{ap, _∙_}
 use native.Mathlib.Omega.{arith}
 use borrow.Author.Needs.{needs}
 use Rattle.money.specs.Money.{pension}

@@ -2,7 +2,7 @@
 -- Assumes nothing.
 use mathlib.Core.Bool.{Bool}
 use mathlib.Core.Path.{_≡_, refl, sym, ap, subst, _∙_}
-use Prim.Native.Nat.{ℕ, _-_}
+use Prim.Native.Nat.{_-_}
 use native.Mathlib.Omega.{arith}
 use lib.Dec.{ltb}
 use borrow.Author.Needs.{needs}
