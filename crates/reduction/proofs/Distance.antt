@@ -8,7 +8,7 @@ use lib.Dec.{ltb→lt}
 use Rattle.rounding.specs.Nearest.{halfUp}
 use Rattle.rounding.proofs.HalfUp.{half-up-within-half, half-up-cancel}
 use Rattle.rounding.proofs.Laws.{round-most}
-use Rattle.reduction.specs.Power.{billion, powerOf}
+use Rattle.reduction.specs.Power.{billion, powerOf, powerNum, powerDen}
 use Rattle.reduction.specs.Potential.{potentialOf, NearPotential}
 use Rattle.reduction.proofs.Near.{near-wider}
 use Rattle.reduction.proofs.Growth.{power-most, power-close}
@@ -27,14 +27,14 @@ pub uncancelled-over : 2 ^ 64 < 45 * (200000 * 100) * powerOf 45 * (1000 - 0)
 unfolding powerOf halfUp
 uncancelled-over = ltb→lt (2 ^ 64) (45 * (200000 * 100) * powerOf 45 * (1000 - 0)) tt
 
--- from the power's distance to that of B: q is all of the product but the power p, and t and x are 1000 and 1015 to the years
-near-above : (q p t x b : ℕ) → q ≤ 900000000000 → p * t ≤ billion * x + 2 * t
-    → 2 * 54000000000000 * b ≤ 2 * (q * p) + 54000000000000 → b * (54000 * t) ≤ q * x + 1 * (54000 * t)
+-- from the distance of the power p to that of B: q is the product without the power, x over t the exact power
+near-above : (q p t x b : ℕ) → q ≤ 900000000000 → p * t ≤ x + 2 * t
+    → 2 * 54000000000000 * b ≤ 2 * (q * p) + 54000000000000 → b * (54000000000000 * t) ≤ q * x + 1 * (54000000000000 * t)
 near-above q p t x b small near half =
     omega (arith, mul-le-mul-right t half, mul-le-mul-left q near, mul-le-mul-right t small)
 
-near-below : (q p t x b : ℕ) → q ≤ 900000000000 → billion * x ≤ (p + 2) * t
-    → 2 * (q * p) ≤ 2 * 54000000000000 * b + 54000000000000 → q * x ≤ (b + 1) * (54000 * t)
+near-below : (q p t x b : ℕ) → q ≤ 900000000000 → x ≤ (p + 2) * t
+    → 2 * (q * p) ≤ 2 * 54000000000000 * b + 54000000000000 → q * x ≤ (b + 1) * (54000000000000 * t)
 near-below q p t x b small near half =
     omega (arith, mul-le-mul-right t half, mul-le-mul-left q near, mul-le-mul-right t small)
 
@@ -73,12 +73,12 @@ module _ (years pay erf : ℕ) (few : years ≤ 45) (paid : pay ≤ 200000) wher
         real = omega (arith, one-le-pow years 1000 (omega arith));
         above = omega (
           arith,
-          near-above q (powerOf years) (1000 ^ years) (1015 ^ years) b weight-most (p .above)
+          near-above q (powerOf years) (powerDen years) (powerNum years) b weight-most (p .above)
               (omega (arith, half-up-within-half .above n 54000000000000 (omega arith))),
         );
         below = omega (
           arith,
-          near-below q (powerOf years) (1000 ^ years) (1015 ^ years) b weight-most (p .below)
+          near-below q (powerOf years) (powerDen years) (powerNum years) b weight-most (p .below)
               (omega (arith, half-up-within-half .below n 54000000000000 (omega arith))),
         );
       }

@@ -1,21 +1,21 @@
 -- Request 4 of document 02: B, the greatest pension a year that a buy-out up to a candidate age can be worth.
 -- Assumes nothing.
-use Prim.Native.Nat.{ℕ, _*_, _-_, _^_}
+use Prim.Native.Nat.{ℕ, _*_, _-_}
 use Rattle.rounding.specs.Nearest.{halfUp}
 use Rattle.reduction.specs.Near.{Near}
-use Rattle.reduction.specs.Power.{billion, powerOf}
+use Rattle.reduction.specs.Power.{billion, powerOf, powerNum, powerDen}
 
 -- years × pay × 1.015 to those years × (1 − ERF) ÷ 54, in pence, rounded once, a half going up; pay is in pounds, the power in
 -- billionths, the factor in thousandths
 unfoldable pub potentialOf : (years pay erf : ℕ) → ℕ
 potentialOf years pay erf = halfUp (years * (pay * 100) * powerOf years * (1000 - erf)) (54 * 1000 * billion)
 
--- the exact value in pence, a fraction: the exact power in its place, and nothing rounded
+-- the exact value in pence, a fraction: the same with the exact power, and nothing rounded
 abbrev pub potentialNum : (years pay erf : ℕ) → ℕ
-potentialNum years pay erf = years * (pay * 100) * 1015 ^ years * (1000 - erf)
+potentialNum years pay erf = years * (pay * 100) * powerNum years * (1000 - erf)
 
 abbrev pub potentialDen : (years : ℕ) → ℕ
-potentialDen years = 54 * 1000 * 1000 ^ years
+potentialDen years = 54 * 1000 * billion * powerDen years
 
 -- b is within s pence of it
 abbrev pub NearPotential : (s years pay erf b : ℕ) → Type 0

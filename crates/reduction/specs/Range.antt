@@ -26,7 +26,7 @@ wrongFigures a =
     || (ltb mostPence (a .existing .0)
     || ltb mostPence (a .limit .0))))
 
--- 18
+-- 18: any of these
 unfoldable pub outOfRange : Application → Bool
 outOfRange a = wrongMember a || wrongFigures a
 

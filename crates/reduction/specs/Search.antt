@@ -19,6 +19,7 @@ factorOf a zero = a .«erf_first»
 factorOf a (suc zero) = a .«erf_second»
 factorOf a (suc (suc k)) = a .«erf_third»
 
+-- the whole years to each
 unfoldable pub yearsTo : Application → ℕ → ℕ
 yearsTo a k = candidateOf a k - a .age
 
@@ -38,13 +39,15 @@ headroom b existing limit = greaterOf (subℕ b existing) (subℕ limit existing
 unfoldable pub takes : (b existing limit : ℕ) → Bool
 takes b existing limit = eqb existing 0 || ltZ (pos b) (headroom b existing limit)
 
+-- whether candidate k is taken
 unfoldable pub takesAt : Application → ℕ → Bool
 takesAt a k = takes (potentialAt a k) (a .existing .0) (a .limit .0)
 
+-- a candidate that is not below NPA ends the search
 unfoldable pub belowNpa : Application → ℕ → Bool
 belowNpa a k = ltb (candidateOf a k) (a .npa)
 
--- of n candidates from k on, the first that is taken; 0, no scope, where the search comes to one that is not below NPA, or to the end
+-- of n candidates from k on the first that is taken; 0, no scope, at one that is not below NPA, and where none is left
 unfoldable pub searchFrom : Application → (k n : ℕ) → ℕ
 searchFrom a k zero = 0
 searchFrom a k (suc n) = pick (belowNpa a k) (pick (takesAt a k) (candidateOf a k) (searchFrom a (suc k) n)) 0
