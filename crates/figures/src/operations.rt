@@ -178,7 +178,7 @@ fn pay_off(row: &[u64]) {
 }
 
 // Refusal, age, the B of three candidates.
-fn limit_numbers(answer: ReductionLimit) -> [u64; 6] {
+fn reduction_numbers(answer: ReductionLimit) -> [u64; 6] {
     match answer {
         ReductionLimit::Refused => [18, 0, 0, 0, 0, 0],
         ReductionLimit::NoScope(p) => [0, 0, p.first.0, p.second.0, p.third.0, 0],
@@ -207,7 +207,7 @@ fn reduction_limit(row: &[u64]) {
     line::filled(
         b"reduction-limit* is refusal# age# first# second# third#",
         row,
-        limit_numbers(answer),
+        reduction_numbers(answer),
     );
 }
 

@@ -15,9 +15,9 @@ use Rattle.settlement.proofs.Bounds.{settle-bounds}
 use Rattle.pay_off.specs.PayOff.{PayOffNumbers, payOffOf}
 use Rattle.pay_off.proofs.Bounds.{pay-off-bounds}
 use Rattle.reduction.specs.declared.Application.{Application}
-use Rattle.reduction.specs.Limit.{LimitNumbers, reductionLimitOf}
-use Rattle.reduction.proofs.Bounds.{limit-bounds}
-use Rattle.host.specs.Calls.{answerIn, quoteBytes, settleBytes, payOffBytes, limitBytes, hostQuoteOf, hostSettleOf, hostPayOffOf, hostReductionLimitOf}
+use Rattle.reduction.specs.Answer.{ReductionNumbers, reductionLimitOf}
+use Rattle.reduction.proofs.Bounds.{reduction-bounds}
+use Rattle.host.specs.Calls.{answerIn, quoteBytes, settleBytes, payOffBytes, reductionBytes, hostQuoteOf, hostSettleOf, hostPayOffOf, hostReductionLimitOf}
 use Rattle.host.proofs.QuoteBounds.{quote-bounds}
 
 short : (size refusal : ℕ) (result buffer : List ℕ) → length buffer < size
@@ -36,13 +36,13 @@ enough {A} refusal bytes size buffer n m h is told =
 -- the value of a call that has room is small
 
 -- the first number that is stored is the refusal
-first-most : {A : Type 0} (refusal : A → ℕ) (most : ℕ) {n m : A} {told rest : List ℕ} → n ≡ m → told ≡ refusal n ∷ rest → refusal m ≤ most
+stored-first-most : {A : Type 0} (refusal : A → ℕ) (most : ℕ) {n m : A} {told rest : List ℕ} → n ≡ m → told ≡ refusal n ∷ rest → refusal m ≤ most
     → getD told 0 0 ≤ most
-first-most refusal most is e h = omega (arith, ap (λ (l : List ℕ). getD l 0 0) e, ap refusal is)
+stored-first-most refusal most is e h = omega (arith, ap (λ (l : List ℕ). getD l 0 0) e, ap refusal is)
 
 pub quote-value-most : (t : Terms) (existing last : ℕ) {n : QuoteNumbers} {told : List ℕ} → n ≡ quoteOf t existing last
     → told ≡ n .refusal ∷ n .contribution ∷ n .next ∷ [] → getD told 0 0 ≤ 9
-quote-value-most t existing last is e = first-most (λ (n : QuoteNumbers). n .refusal) 9 is e (quote-bounds t existing last .refusal-most)
+quote-value-most t existing last is e = stored-first-most (λ (n : QuoteNumbers). n .refusal) 9 is e (quote-bounds t existing last .refusal-most)
 
 pub settle-value-most : (t : Terms) (marks : List ℕ) {n : SettleNumbers} → n ≡ settleOf t marks → n .refusal ≤ 12
 settle-value-most t marks is = omega (arith, ap (λ (n : SettleNumbers). n .refusal) is, settle-bounds t marks .refusal-most)
@@ -50,11 +50,11 @@ settle-value-most t marks is = omega (arith, ap (λ (n : SettleNumbers). n .refu
 pub pay-off-value-most : (t : Terms) (marks : List ℕ) (ageNow increase : ℕ) {n : PayOffNumbers} {told : List ℕ}
     → n ≡ payOffOf t marks ageNow increase → told ≡ n .refusal ∷ n .place ∷ n .remaining ∷ n .increased ∷ n .cost ∷ [] → getD told 0 0 ≤ 17
 pay-off-value-most t marks ageNow increase is e =
-    first-most (λ (n : PayOffNumbers). n .refusal) 17 is e (pay-off-bounds t marks ageNow increase .refusal-most)
+    stored-first-most (λ (n : PayOffNumbers). n .refusal) 17 is e (pay-off-bounds t marks ageNow increase .refusal-most)
 
-pub limit-value-most : (a : Application) {n : LimitNumbers} {told : List ℕ} → n ≡ reductionLimitOf a
+pub reduction-value-most : (a : Application) {n : ReductionNumbers} {told : List ℕ} → n ≡ reductionLimitOf a
     → told ≡ n .refusal ∷ n .age ∷ n .first ∷ n .second ∷ n .third ∷ [] → getD told 0 0 ≤ 18
-limit-value-most a is e = first-most (λ (n : LimitNumbers). n .refusal) 18 is e (limit-bounds a .refusal-most)
+reduction-value-most a is e = stored-first-most (λ (n : ReductionNumbers). n .refusal) 18 is e (reduction-bounds a .refusal-most)
 
 -- what is told
 
@@ -119,21 +119,21 @@ module _ (t : Terms) (marks : List ℕ) (ageNow increase : ℕ) (buffer : List �
       pay-off-enough h is (ap (λ (l : List ℕ). getD l 0 0) e, stored ∙ ap (λ (l : List ℕ). storedIn l buffer) e ∙ stored-front _ buffer h)
 
 module _ (a : Application) (buffer : List ℕ) where
-  pub limit-short : length buffer < 40
+  pub reduction-short : length buffer < 40
       → (14 ≡ hostReductionLimitOf a buffer .value) × (buffer ≡ hostReductionLimitOf a buffer .buffer)
   unfolding hostReductionLimitOf
-  limit-short h = short 40 (reductionLimitOf a .refusal) (limitBytes (reductionLimitOf a)) buffer h
+  reduction-short h = short 40 (reductionLimitOf a .refusal) (reductionBytes (reductionLimitOf a)) buffer h
 
-  pub limit-enough : {n : LimitNumbers} {value : ℕ} {after : List ℕ} → 40 ≤ length buffer → n ≡ reductionLimitOf a
-      → (value ≡ n .refusal) × (after ≡ limitBytes n ++ drop 40 buffer)
+  pub reduction-enough : {n : ReductionNumbers} {value : ℕ} {after : List ℕ} → 40 ≤ length buffer → n ≡ reductionLimitOf a
+      → (value ≡ n .refusal) × (after ≡ reductionBytes n ++ drop 40 buffer)
       → (value ≡ hostReductionLimitOf a buffer .value) × (after ≡ hostReductionLimitOf a buffer .buffer)
   unfolding hostReductionLimitOf
-  limit-enough h is told = enough (λ (n : LimitNumbers). n .refusal) limitBytes 40 buffer _ _ h is told
+  reduction-enough h is told = enough (λ (n : ReductionNumbers). n .refusal) reductionBytes 40 buffer _ _ h is told
 
   -- where the numbers of the reduction limit are stored, in their order
-  pub limit-told : {n : LimitNumbers} {told after : List ℕ} → 40 ≤ length buffer → n ≡ reductionLimitOf a
+  pub reduction-told : {n : ReductionNumbers} {told after : List ℕ} → 40 ≤ length buffer → n ≡ reductionLimitOf a
       → told ≡ n .refusal ∷ n .age ∷ n .first ∷ n .second ∷ n .third ∷ [] → after ≡ storedIn told buffer
       → (getD told 0 0 ≡ hostReductionLimitOf a buffer .value) × (after ≡ hostReductionLimitOf a buffer .buffer)
-  unfolding limitBytes
-  limit-told h is e stored =
-      limit-enough h is (ap (λ (l : List ℕ). getD l 0 0) e, stored ∙ ap (λ (l : List ℕ). storedIn l buffer) e ∙ stored-front _ buffer h)
+  unfolding reductionBytes
+  reduction-told h is e stored =
+      reduction-enough h is (ap (λ (l : List ℕ). getD l 0 0) e, stored ∙ ap (λ (l : List ℕ). storedIn l buffer) e ∙ stored-front _ buffer h)

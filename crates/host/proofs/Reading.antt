@@ -15,13 +15,13 @@ use Rattle.pay_off.specs.PayOff.{PayOffNumbers, payOffOf}
 use Rattle.pay_off.specs.Bounds.{PayOffBounds}
 use Rattle.pay_off.proofs.Bounds.{pay-off-bounds}
 use Rattle.reduction.specs.declared.Application.{Application}
-use Rattle.reduction.specs.Limit.{LimitNumbers, reductionLimitOf}
-use Rattle.reduction.specs.Bounds.{LimitBounds}
-use Rattle.reduction.proofs.Bounds.{limit-bounds}
+use Rattle.reduction.specs.Answer.{ReductionNumbers, reductionLimitOf}
+use Rattle.reduction.specs.Bounds.{ReductionBounds}
+use Rattle.reduction.proofs.Bounds.{reduction-bounds}
 use Rattle.number_bytes.specs.Bytes.{lowBytes, eightBytes, inBytes}
-use Rattle.host.specs.Calls.{quoteBytes, settleBytes, payOffBytes, limitBytes, hostQuoteOf, hostSettleOf, hostPayOffOf, hostReductionLimitOf}
-use Rattle.host.specs.Reading.{numberOf, numberAt, QuoteRead, SettleRead, PayOffRead, LimitRead}
-use Rattle.host.proofs.Calls.{quote-enough, settle-enough, pay-off-enough, limit-enough}
+use Rattle.host.specs.Calls.{quoteBytes, settleBytes, payOffBytes, reductionBytes, hostQuoteOf, hostSettleOf, hostPayOffOf, hostReductionLimitOf}
+use Rattle.host.specs.Reading.{numberOf, numberAt, QuoteRead, SettleRead, PayOffRead, ReductionRead}
+use Rattle.host.proofs.Calls.{quote-enough, settle-enough, pay-off-enough, reduction-enough}
 use Rattle.host.proofs.QuoteBounds.{QuoteBounds, quote-bounds}
 
 low-back : (k n : ℕ) → n < 256 ^ k → numberOf (lowBytes k n) ≡ n
@@ -68,9 +68,9 @@ pay-off-back n rest most =
       cost = eight-back (n .cost) (omega arith);
     }
 
-limit-back : (n : LimitNumbers) (rest : List ℕ) → LimitBounds n → LimitRead (limitBytes n ++ rest) n
-unfolding limitBytes inBytes eightBytes lowBytes numberAt
-limit-back n rest most =
+reduction-back : (n : ReductionNumbers) (rest : List ℕ) → ReductionBounds n → ReductionRead (reductionBytes n ++ rest) n
+unfolding reductionBytes inBytes eightBytes lowBytes numberAt
+reduction-back n rest most =
     record {
       refusal = eight-back (n .refusal) (omega arith);
       age = eight-back (n .age) (omega arith);
@@ -101,7 +101,7 @@ pay-off-reads t marks ageNow increase buffer h =
     (pay-off-back (payOffOf t marks ageNow increase) (drop 40 buffer) (pay-off-bounds t marks ageNow increase))
 
 -- and of the reduction limit
-pub limit-reads : (a : Application) (buffer : List ℕ) → 40 ≤ length buffer → LimitRead (hostReductionLimitOf a buffer .buffer) (reductionLimitOf a)
-limit-reads a buffer h =
-    subst (λ (l : List ℕ). LimitRead l (reductionLimitOf a)) (limit-enough a buffer h refl (refl, refl) .1)
-    (limit-back (reductionLimitOf a) (drop 40 buffer) (limit-bounds a))
+pub reduction-reads : (a : Application) (buffer : List ℕ) → 40 ≤ length buffer → ReductionRead (hostReductionLimitOf a buffer .buffer) (reductionLimitOf a)
+reduction-reads a buffer h =
+    subst (λ (l : List ℕ). ReductionRead l (reductionLimitOf a)) (reduction-enough a buffer h refl (refl, refl) .1)
+    (reduction-back (reductionLimitOf a) (drop 40 buffer) (reduction-bounds a))

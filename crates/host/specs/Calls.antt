@@ -12,7 +12,7 @@ use Rattle.settlement.specs.Settle.{SettleNumbers, settleOf}
 use Rattle.pay_off.specs.PayOff.{PayOffNumbers, payOffOf}
 use Rattle.money.specs.Money.{pension}
 use Rattle.reduction.specs.declared.Application.{Application}
-use Rattle.reduction.specs.Limit.{LimitNumbers, reductionLimitOf}
+use Rattle.reduction.specs.Answer.{ReductionNumbers, reductionLimitOf}
 use Rattle.number_bytes.specs.Bytes.{inBytes}
 
 -- the terms that a call's numbers stand for
@@ -21,15 +21,15 @@ terms age years months option payer term amount =
     record { age = age; years = years; months = months; option = option; payer = payer; term = term; amount = amount }
 
 -- the application that a call's numbers stand for
-abbrev pub application : (npa age pay first second third existing limit : ℕ) → Application
-application npa age pay first second third existing limit =
+abbrev pub application : (npa age pay erf1 erf2 erf3 existing limit : ℕ) → Application
+application npa age pay erf1 erf2 erf3 existing limit =
     record {
       npa = npa;
       age = age;
       pay = pay;
-      «erf_first» = first;
-      «erf_second» = second;
-      «erf_third» = third;
+      «erf_first» = erf1;
+      «erf_second» = erf2;
+      «erf_third» = erf3;
       existing = pension existing;
       limit = pension limit;
     }
@@ -47,8 +47,8 @@ unfoldable pub payOffBytes : PayOffNumbers → List ℕ
 payOffBytes n = inBytes (n .refusal ∷ n .place ∷ n .remaining ∷ n .increased ∷ n .cost ∷ [])
 
 -- the result of the reduction limit: refusal, age, the B of the three candidates
-unfoldable pub limitBytes : LimitNumbers → List ℕ
-limitBytes n = inBytes (n .refusal ∷ n .age ∷ n .first ∷ n .second ∷ n .third ∷ [])
+unfoldable pub reductionBytes : ReductionNumbers → List ℕ
+reductionBytes n = inBytes (n .refusal ∷ n .age ∷ n .first ∷ n .second ∷ n .third ∷ [])
 
 -- what a call gives: its value, and every byte of the lent buffer when it returns
 pub record HostAnswer : Type 0 where
@@ -77,4 +77,4 @@ hostPayOffOf t marks ageNow increase buffer =
 
 -- the reduction limit for a host: 40 bytes
 unfoldable pub hostReductionLimitOf : Application → List ℕ → HostAnswer
-hostReductionLimitOf a buffer = answerIn 40 (reductionLimitOf a .refusal) (limitBytes (reductionLimitOf a)) buffer
+hostReductionLimitOf a buffer = answerIn 40 (reductionLimitOf a .refusal) (reductionBytes (reductionLimitOf a)) buffer

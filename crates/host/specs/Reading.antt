@@ -7,7 +7,7 @@ use lib.ListN.{take, drop}
 use Rattle.quotes.specs.Quote.{QuoteNumbers}
 use Rattle.settlement.specs.Settle.{SettleNumbers}
 use Rattle.pay_off.specs.PayOff.{PayOffNumbers}
-use Rattle.reduction.specs.Limit.{LimitNumbers}
+use Rattle.reduction.specs.Answer.{ReductionNumbers}
 
 -- the number that bytes stand for, low byte first
 unfoldable pub numberOf : List ℕ → ℕ
@@ -42,7 +42,7 @@ pub record PayOffRead (buffer : List ℕ) (n : PayOffNumbers) : Type 0 where
   pub cost : numberAt buffer 32 ≡ n .cost
 
 -- a buffer that holds the numbers of a reduction limit
-pub record LimitRead (buffer : List ℕ) (n : LimitNumbers) : Type 0 where
+pub record ReductionRead (buffer : List ℕ) (n : ReductionNumbers) : Type 0 where
   pub refusal : numberAt buffer 0 ≡ n .refusal
   pub age : numberAt buffer 8 ≡ n .age
   pub first : numberAt buffer 16 ≡ n .first

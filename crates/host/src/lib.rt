@@ -4,7 +4,7 @@ ghost use mathlib.Core.Path.{_≡_};
 ghost use mathlib.Core.List.{[], _∷_};
 ghost use Rattle.quotes.specs.Quote.{numbersOf as quoteNumbers};
 ghost use Rattle.pay_off.specs.PayOff.{numbersOf as payOffNumbers};
-ghost use Rattle.reduction.specs.Limit.{numbersOf as limitNumbers};
+ghost use Rattle.reduction.specs.Answer.{numbersOf as reductionNumbers};
 ghost use Rattle.host.specs.Calls.{terms, application, hostQuoteOf, hostSettleOf, hostPayOffOf, hostReductionLimitOf};
 use money::PensionPence;
 use pay_off::PayOff;
@@ -62,8 +62,8 @@ fn pay_off_numbers(answer: PayOff) -> [u64; 5]
 }
 
 // What a reduction limit answers, in the order in which it is stored.
-fn limit_numbers(answer: ReductionLimit) -> [u64; 5]
-    ensures { λ r. ⌜ r ≡ limitNumbers answer .refusal ∷ limitNumbers answer .age ∷ limitNumbers answer .first ∷ limitNumbers answer .second ∷ limitNumbers answer .third ∷ [] ⌝ }
+fn reduction_numbers(answer: ReductionLimit) -> [u64; 5]
+    ensures { λ r. ⌜ r ≡ reductionNumbers answer .refusal ∷ reductionNumbers answer .age ∷ reductionNumbers answer .first ∷ reductionNumbers answer .second ∷ reductionNumbers answer .third ∷ [] ⌝ }
 {
     match answer {
         ReductionLimit::Refused => [OUT_OF_RANGE, 0, 0, 0, 0],
@@ -223,7 +223,7 @@ pub extern "C" fn ap_reduction_limit(
         existing: PensionPence(existing_pence),
         limit: PensionPence(limit_pence),
     };
-    let found = limit_numbers(reduction::reduction_limit(a));
+    let found = reduction_numbers(reduction::reduction_limit(a));
     number_bytes::put_all(out, &found);
     found[0] as u32
 }

@@ -35,11 +35,11 @@ impl PensionPence {
         PensionPence(pounds as u64 * 100)
     }
 
-    // A quotient of pence, a half penny going up; nothing where the divisor is 0.
-    pub fn of_quotient(pence: u64, divisor: u64) -> Self
-        ensures { λ r. ⌜ r ≡ pension (halfUp pence divisor) ⌝ }
+    // A quotient in pence, a half penny going up; nothing where the divisor is 0.
+    pub fn of_quotient(numerator: u64, divisor: u64) -> Self
+        ensures { λ r. ⌜ r ≡ pension (halfUp numerator divisor) ⌝ }
     {
-        PensionPence(rounding::half_up(pence, divisor))
+        PensionPence(rounding::half_up(numerator, divisor))
     }
 
     pub fn plus(self, other: PensionPence) -> Self

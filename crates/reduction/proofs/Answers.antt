@@ -1,21 +1,21 @@
 -- The B that an answer shows, by what the search found.
 -- Assumes nothing.
-use mathlib.Core.Bool.{Bool, true, false, _&&_}
-use mathlib.Core.Path.{_≡_, refl}
+use mathlib.Core.Bool.{true, false}
+use mathlib.Core.Path.{_≡_}
 use Prim.Native.Nat.{ℕ, _+_, _<_}
 use native.Mathlib.Omega.{arith}
 use lib.Dec.{ltb, eqb}
 use borrow.Author.Tests.{ltb-true, ltb-false, le-leb, lt-leb, ne-eqb}
 use Rattle.common.specs.Choice.{pick}
-use Rattle.common.proofs.Tests.{by-test, or-true}
+use Rattle.common.proofs.Tests.{by-test, or-true, and-false}
 use Rattle.money.specs.Money.{pension}
 use Rattle.reduction.specs.declared.Application.{Application}
 use Rattle.reduction.specs.declared.Potentials.{Potentials}
 use Rattle.reduction.specs.Range.{InRange}
-use Rattle.reduction.specs.Search.{candidateOf, potentialAt, belowNpa, earliestAge}
-use Rattle.reduction.specs.Limit.{shownOf, answeredLimit, reductionLimitOf}
+use Rattle.reduction.specs.Search.{candidateOf, potentialAt, belowNpa}
+use Rattle.reduction.specs.Answer.{shownOf, answeredReduction, reductionBy, reductionLimitOf}
 use Rattle.reduction.proofs.Range.{not-out}
-use Rattle.reduction.proofs.Candidates.{candidate-least, candidates-rise, candidates-apart, below-npa}
+use Rattle.reduction.proofs.Candidates.{earliestAge, candidate-least, candidates-rise, candidates-apart, below-npa}
 
 -- B of candidate j where it is one of the first m, else 0
 unfoldable pub triedOf : Application → (m j : ℕ) → ℕ
@@ -25,42 +25,37 @@ triedOf a m j = pick (ltb j m) (potentialAt a j) 0
 abbrev pub tried : Application → (m : ℕ) → Potentials
 tried a m = record { first = pension (triedOf a m 0); second = pension (triedOf a m 1); third = pension (triedOf a m 2) }
 
-and-false : (t : Bool) → (t && false) ≡ false
-and-false true = refl
-and-false false = refl
-
 module _ (a : Application) where
   -- an answer that shows the first m
-  pub answered : InRange a → (m age : ℕ) → earliestAge a ≡ age → ((j : ℕ) → j < 3 → shownOf a j ≡ triedOf a m j)
-      → answeredLimit age (tried a m) ≡ reductionLimitOf a
-  unfolding reductionLimitOf
+  pub answered : InRange a → (m age : ℕ) → earliestAge a ≡ age → ((j : ℕ) → j < 3 → shownOf a age j ≡ triedOf a m j)
+      → answeredReduction age (tried a m) ≡ reductionLimitOf a
+  unfolding reductionLimitOf reductionBy
   answered in-it m age e shown =
       rw (not-out a in-it, e, shown 0 (omega arith), shown 1 (omega arith), shown 2 (omega arith))
 
   -- none is taken, and the first m are those below NPA
-  pub shown-untaken : (m j : ℕ) → earliestAge a ≡ 0 → belowNpa a j ≡ ltb j m → shownOf a j ≡ triedOf a m j
+  pub shown-untaken : (m j : ℕ) → belowNpa a j ≡ ltb j m → shownOf a 0 j ≡ triedOf a m j
   unfolding shownOf triedOf
-  shown-untaken m j z below = by-test (ltb j m) (λ e. rw (below, e, z)) (λ e. rw (below, e))
+  shown-untaken m j below = by-test (ltb j m) (λ e. rw (below, e)) (λ e. rw (below, e))
 
   -- candidate k is taken
-  module _ (k : ℕ) (is : earliestAge a ≡ candidateOf a k) (below : candidateOf a k < a .npa) where
-    shown-until : (j : ℕ) → ltb j (k + 1) ≡ true → shownOf a j ≡ triedOf a (k + 1) j
+  module _ (k : ℕ) (below : candidateOf a k < a .npa) where
+    shown-until : (j : ℕ) → ltb j (k + 1) ≡ true → shownOf a (candidateOf a k) j ≡ triedOf a (k + 1) j
     unfolding shownOf triedOf
     shown-until j e =
         let up = candidates-rise a j k (omega (arith, ltb-true j (k + 1) e)) in
-        rw (e, below-npa a j (omega arith), is, le-leb (candidateOf a j) (candidateOf a k) up, or-true (eqb (candidateOf a k) 0))
+        rw (e, below-npa a j (omega arith), le-leb (candidateOf a j) (candidateOf a k) up, or-true (eqb (candidateOf a k) 0))
 
-    not-shown : (j : ℕ) → ltb j (k + 1) ≡ false → shownOf a j ≡ triedOf a (k + 1) j
+    not-shown : (j : ℕ) → ltb j (k + 1) ≡ false → shownOf a (candidateOf a k) j ≡ triedOf a (k + 1) j
     unfolding shownOf triedOf
     not-shown j e =
         let after = candidates-apart a k j (omega (arith, ltb-false j (k + 1) e)) in
         rw (
           e,
-          is,
           lt-leb (candidateOf a j) (candidateOf a k) after,
           ne-eqb (candidateOf a k) 0 (λ z. omega (arith, candidate-least a k)),
           and-false (belowNpa a j),
         )
 
-    pub shown-taken : (j : ℕ) → shownOf a j ≡ triedOf a (k + 1) j
+    pub shown-taken : (j : ℕ) → shownOf a (candidateOf a k) j ≡ triedOf a (k + 1) j
     shown-taken j = by-test (ltb j (k + 1)) (shown-until j) (not-shown j)

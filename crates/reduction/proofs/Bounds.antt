@@ -9,11 +9,11 @@ use Rattle.common.proofs.Tests.{by-test}
 use Rattle.common.proofs.Choice.{either}
 use Rattle.reduction.specs.declared.Application.{Application}
 use Rattle.reduction.specs.Range.{outOfRange, InRange}
-use Rattle.reduction.specs.Search.{candidateOf, belowNpa, earliestAge}
-use Rattle.reduction.specs.Limit.{shownOf, reductionLimitOf}
-use Rattle.reduction.specs.Bounds.{LimitBounds}
+use Rattle.reduction.specs.Search.{candidateOf, belowNpa}
+use Rattle.reduction.specs.Answer.{shownOf, reductionBy, reductionLimitOf}
+use Rattle.reduction.specs.Bounds.{mostPotential, ReductionBounds}
 use Rattle.reduction.proofs.Range.{in-range}
-use Rattle.reduction.proofs.Candidates.{is-below, most-at}
+use Rattle.reduction.proofs.Candidates.{earliestAge, is-below, most-at}
 use Rattle.reduction.proofs.Earliest.{given-earliest}
 
 module _ (a : Application) where
@@ -25,18 +25,18 @@ module _ (a : Application) where
         (λ e. omega (arith, eqb-true (earliestAge a) 0 e))
         (λ e. let f = given-earliest a (eqb-false (earliestAge a) 0 e) in omega (arith, f .is, f .passes .below, in-it .npa-high))
 
-    shown-most : (k : ℕ) → shownOf a k ≤ 32570217
+    shown-most : (age k : ℕ) → shownOf a age k ≤ mostPotential
     unfolding shownOf
-    shown-most k =
+    shown-most age k =
         by-test (belowNpa a k)
         (λ b. rw b
-        (either (λ (n : ℕ). n ≤ 32570217) (eqb (earliestAge a) 0 || leb (candidateOf a k) (earliestAge a)) {y = 0}
+        (either (λ (n : ℕ). n ≤ mostPotential) (eqb age 0 || leb (candidateOf a k) age) {y = 0}
         (most-at a in-it k (is-below a k b)) (omega arith)))
         (λ b. rw b (omega arith))
 
-  pub limit-bounds : LimitBounds (reductionLimitOf a)
-  unfolding reductionLimitOf
-  limit-bounds =
+  pub reduction-bounds : ReductionBounds (reductionLimitOf a)
+  unfolding reductionLimitOf reductionBy
+  reduction-bounds =
       by-test (outOfRange a)
       (λ e.
       rw e
@@ -53,7 +53,7 @@ module _ (a : Application) where
       record {
         refusal-most = omega arith;
         age-most = age-most in-it;
-        first-most = shown-most in-it 0;
-        second-most = shown-most in-it 1;
-        third-most = shown-most in-it 2;
+        first-most = shown-most in-it _ 0;
+        second-most = shown-most in-it _ 1;
+        third-most = shown-most in-it _ 2;
       })

@@ -8,8 +8,20 @@ use borrow.Author.Tests.{lt-ltb, le-ltb, ltb-true, ltb-false}
 use Rattle.reduction.specs.declared.Application.{Application}
 use Rattle.reduction.specs.Potential.{NearPotential}
 use Rattle.reduction.specs.Range.{InRange}
-use Rattle.reduction.specs.Search.{candidateOf, factorOf, yearsTo, potentialAt, belowNpa}
-use Rattle.reduction.proofs.Distance.{potential-most, potential-near}
+use Rattle.reduction.specs.Search.{candidateOf, factorOf, yearsTo, potentialAt, takesAt, belowNpa, searchBy}
+use Rattle.reduction.specs.Bounds.{mostPotential}
+use Rattle.reduction.proofs.Distance.{potential-most, potential-close}
+
+-- where k is neither 0 nor 1
+pub from-two : {k : ℕ} → (k ≡ 0 → ⊥) → (k ≡ 1 → ⊥) → k ≡ suc (suc (k - 2))
+from-two some more = omega (arith, some, more)
+
+-- the age that the search gives by B < C, and what is left of that search from candidate k on
+abbrev pub searchFrom : Application → (k n : ℕ) → ℕ
+searchFrom a = searchBy (takesAt a) a
+
+abbrev pub earliestAge : Application → ℕ
+earliestAge a = searchFrom a 0 3
 
 module _ (a : Application) where
   pub candidate-least : (k : ℕ) → 65 ≤ candidateOf a k
@@ -71,10 +83,10 @@ module _ (a : Application) where
 
     -- B of a candidate below NPA
     module _ (k : ℕ) (below : candidateOf a k < a .npa) where
-      pub near-at : NearPotential 2 (yearsTo a k) (a .pay) (factorOf a k) (potentialAt a k)
+      pub close-at : NearPotential 1 (yearsTo a k) (a .pay) (factorOf a k) (potentialAt a k)
       unfolding potentialAt
-      near-at = potential-near (yearsTo a k) (a .pay) (factorOf a k) (years-few k below) (in-it .pay-high)
+      close-at = potential-close (yearsTo a k) (a .pay) (factorOf a k) (years-few k below) (in-it .pay-high)
 
-      pub most-at : potentialAt a k ≤ 32570217
+      pub most-at : potentialAt a k ≤ mostPotential
       unfolding potentialAt
       most-at = potential-most (yearsTo a k) (a .pay) (factorOf a k) (years-few k below) (in-it .pay-high)

@@ -9,9 +9,10 @@ use Rattle.rounding.specs.Nearest.{halfUp}
 use Rattle.rounding.proofs.HalfUp.{half-up-within-half, half-up-cancel}
 use Rattle.rounding.proofs.Laws.{round-most}
 use Rattle.reduction.specs.Power.{billion, powerOf, powerNum, powerDen}
-use Rattle.reduction.specs.Potential.{potentialOf, NearPotential}
+use Rattle.reduction.specs.Potential.{potentialOf, NearPotential, PotentialTold}
+use Rattle.reduction.specs.Bounds.{mostPotential}
 use Rattle.reduction.proofs.Near.{near-wider}
-use Rattle.reduction.proofs.Growth.{power-most, power-close}
+use Rattle.reduction.proofs.Growth.{mostPower, power-most, power-close}
 
 -- the same without the hundred
 pub potential-cancelled : (years pay erf : ℕ)
@@ -43,24 +44,23 @@ module _ (years pay erf : ℕ) (few : years ≤ 45) (paid : pay ≤ 200000) wher
   pub service-most : years * pay ≤ 9000000
   service-most = mul-le-mul few paid
 
-  pub grown-most : years * pay * powerOf years ≤ 17587917135000000
+  pub grown-most : years * pay * powerOf years ≤ 9000000 * mostPower
   grown-most = mul-le-mul service-most (power-most years few)
 
-  kept-most : 1000 - erf ≤ 1000
-  kept-most = omega arith
+  reduction-most : 1000 - erf ≤ 1000
+  reduction-most = omega arith
 
   pub product-most : years * pay * powerOf years * (1000 - erf) ≤ 17587917135000000000
-  product-most = mul-le-mul grown-most kept-most
+  product-most = mul-le-mul grown-most reduction-most
 
-  -- B is at most £325,702.17
-  pub potential-most : potentialOf years pay erf ≤ 32570217
+  pub potential-most : potentialOf years pay erf ≤ mostPotential
   potential-most =
       rw (← potential-cancelled years pay erf)
-      (round-most halfUp half-up-within-half (years * pay * powerOf years * (1000 - erf)) (540 * billion) 32570217
+      (round-most halfUp half-up-within-half (years * pay * powerOf years * (1000 - erf)) (540 * billion) mostPotential
       (omega arith) (omega (arith, product-most)))
 
   weight-most : years * (pay * 100) * (1000 - erf) ≤ 900000000000
-  weight-most = omega (arith, mul-le-mul service-most kept-most)
+  weight-most = omega (arith, mul-le-mul service-most reduction-most)
 
   pub potential-close : NearPotential 1 years pay erf (potentialOf years pay erf)
   unfolding potentialOf
@@ -83,5 +83,9 @@ module _ (years pay erf : ℕ) (few : years ≤ 45) (paid : pay ≤ 200000) wher
         );
       }
 
-  pub potential-near : NearPotential 2 years pay erf (potentialOf years pay erf)
-  potential-near = near-wider (omega arith) potential-close
+pub potential-told : PotentialTold
+potential-told =
+    record {
+      near = λ years pay erf few paid. near-wider (omega arith) (potential-close years pay erf few paid);
+      close = λ years pay erf few paid. near-wider (omega arith) (potential-close years pay erf few paid);
+    }

@@ -12,22 +12,22 @@ use lib.Signed.{_<ℤ_}
 use borrow.Author.Tests.{eqb-true, eqb-false, eq-eqb}
 use Rattle.common.proofs.Tests.{by-test, never}
 use Rattle.reduction.specs.declared.Application.{Application}
-use Rattle.reduction.specs.Search.{candidateOf, headroom, takes, takesAt, belowNpa, searchFrom, earliestAge}
+use Rattle.reduction.specs.Search.{candidateOf, headroom, takes, takesAt, belowNpa, searchBy}
 use Rattle.reduction.specs.Told.{Passing, EarliestPassing, NonePassing}
-use Rattle.reduction.proofs.Candidates.{candidate-least, candidates-rise, is-below, is-not-below}
+use Rattle.reduction.proofs.Candidates.{searchFrom, earliestAge, candidate-least, candidates-rise, is-below, is-not-below}
 
 -- the test as a statement, both ways
-takes-room : (b a l : ℕ) → takes b a l ≡ true → (a ≡ 0) ⊎ (pos b <ℤ headroom b a l)
+takes-room : (b held limit : ℕ) → takes b held limit ≡ true → (held ≡ 0) ⊎ (pos b <ℤ headroom b held limit)
 unfolding takes
-takes-room b a l e =
-    by-test (eqb a 0)
-    (λ z. inl (eqb-true a 0 z))
+takes-room b held limit e =
+    by-test (eqb held 0)
+    (λ z. inl (eqb-true held 0 z))
     (λ z. inr (record { lt = subst T (sym (rw z at e)) tt }))
 
-room-takes : (b a l : ℕ) → (a ≡ 0) ⊎ (pos b <ℤ headroom b a l) → takes b a l ≡ true
+room-takes : (b held limit : ℕ) → (held ≡ 0) ⊎ (pos b <ℤ headroom b held limit) → takes b held limit ≡ true
 unfolding takes
-room-takes b a l (inl z) = rw (eq-eqb a 0 z)
-room-takes b a l (inr h) = by-test (eqb a 0) (λ z. rw z) (λ z. rw z (holds _ (h .lt)))
+room-takes b held limit (inl z) = rw (eq-eqb held 0 z)
+room-takes b held limit (inr h) = by-test (eqb held 0) (λ z. rw z) (λ z. rw z (holds _ (h .lt)))
   where
     holds : (t : Bool) → T t → t ≡ true
     holds true p = refl
@@ -61,8 +61,8 @@ module _ (a : Application) where
   ended : (k n : ℕ) → ((j : ℕ) → k ≤ j → Passing a j → ⊥) → Searched a k n 0
   ended k n h = record { given = λ z. absurd (z refl); none = λ z j p q. h j p }
 
-  taken-here : (k n : ℕ) → Passing a k → Searched a k (suc n) (candidateOf a k)
-  taken-here k n p =
+  passes-here : (k n : ℕ) → Passing a k → Searched a k (suc n) (candidateOf a k)
+  passes-here k n p =
       record {
         given = λ z.
             record {
@@ -96,17 +96,16 @@ module _ (a : Application) where
       here-or-later j l q later = ⊎-elim (λ e. fails (subst (Passing a) (sym e) q)) later (eq-or-lt-of-le l)
 
   searched : (k n : ℕ) → Searched a k n (searchFrom a k n)
-  unfolding searchFrom
+  unfolding searchBy
   searched k zero = record { given = λ z. absurd (z refl); none = λ z j p q. omega arith }
   searched k (suc n) =
       by-test (belowNpa a k)
       (λ b. by-test (takesAt a k)
-      (λ t. rw (b, t) (taken-here k n (passing k b t)))
+      (λ t. rw (b, t) (passes-here k n (passing k b t)))
       (λ t. rw (b, t) (go-on k n _ (left k t) (searched (suc k) n))))
       (λ b. rw b (ended k (suc n) (past k b)))
 
   pub given-earliest : (earliestAge a ≡ 0 → ⊥) → EarliestPassing a (earliestAge a)
-  unfolding earliestAge
   given-earliest some =
       let f = searched 0 3 .given some in
       record {
@@ -118,7 +117,6 @@ module _ (a : Application) where
       }
 
   pub none-given : earliestAge a ≡ 0 → NonePassing a
-  unfolding earliestAge
   none-given z k h p = searched 0 3 .none z k zero-le (omega arith) p
 
   pub given-none : NonePassing a → earliestAge a ≡ 0

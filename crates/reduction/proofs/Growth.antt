@@ -1,4 +1,4 @@
--- Up to 45 years the power is at most 1.954213015 and lies within 2 billionths of the exact one: a test computed over all those years,
+-- Up to 45 years the power is at most that of 45 and lies within 2 billionths of the exact one: a test computed over all those years,
 -- carried to each. So it lies within the 32 of document 02.
 -- Assumes nothing.
 use mathlib.Core.List.{List, [], _∷_}
@@ -10,13 +10,17 @@ use native.Mathlib.Omega.{arith}
 use lib.Dec.{T}
 use Rattle.common.proofs.Computed.{Rule, always, Hold, passes, hold, all, all-at}
 use Rattle.rounding.specs.Nearest.{halfUp}
-use Rattle.reduction.specs.Power.{powerOf, powerNum, powerDen, NearPower}
+use Rattle.reduction.specs.Power.{powerOf, powerNum, powerDen, NearPower, PowerTold}
 use Rattle.reduction.proofs.Near.{near-wider}
 
--- at most the power of 45 years; near from above and from below
+-- the power of 45 years
+abbrev pub mostPower : ℕ
+mostPower = 1954213015
+
+-- no power is more; each is near from above and from below
 abbrev rules-of : ℕ → List Rule
 rules-of n =
-    always (powerOf n) 1954213015
+    always (powerOf n) mostPower
     ∷ always (powerOf n * powerDen n) (powerNum n + 2 * powerDen n)
     ∷ always (powerNum n) ((powerOf n + 2) * powerDen n)
     ∷ []
@@ -34,11 +38,15 @@ module _ (n : ℕ) (few : n ≤ 45) where
   rules : Hold (rules-of n)
   rules = hold (rules-of n) (all-at (λ (n : ℕ). passes (rules-of n)) 0 46 years-pass n (omega arith) (omega arith))
 
-  pub power-most : powerOf n ≤ 1954213015
+  pub power-most : powerOf n ≤ mostPower
   power-most = rules .0
 
   pub power-close : NearPower 2 n (powerOf n)
   power-close = record { real = one-le-pow n 1000 (omega arith); above = rules .1 .0; below = rules .1 .1 .0 }
 
-  pub power-near : NearPower 32 n (powerOf n)
-  power-near = near-wider (omega arith) power-close
+pub power-told : PowerTold
+power-told =
+    record {
+      near = λ n few. near-wider (omega arith) (power-close n few);
+      close = λ n few. near-wider (omega arith) (power-close n few);
+    }

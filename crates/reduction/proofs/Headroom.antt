@@ -1,60 +1,58 @@
--- B < C on numbers with a sign, and the same on numbers without one.
+-- C, with its sign and cut off at 0: B is below the one just where it is below the other. And the test as the code makes it.
 -- Assumes nothing.
-use mathlib.Core.Bool.{Bool, true, false, _||_}
-use mathlib.Core.Path.{_≡_, sym, ap, _∙_}
-use Prim.Native.Nat.{ℕ, suc, _-_, max}
+use mathlib.Core.Bool.{true, false}
+use mathlib.Core.Path.{_≡_, refl, sym, ap, _∙_}
+use Prim.Native.Nat.{ℕ, suc, _-_, max, zero-le}
 use native.Mathlib.Omega.{arith}
-use lib.Dec.{ltb, eqb}
-use lib.IntN.{pos, subℕ}
+use lib.Dec.{ltb}
+use lib.IntN.{ℤ, pos, negsuc, subℕ}
 use lib.Signed.{ltZ}
 use borrow.Author.Tests.{lt-ltb, le-ltb, ltb-true, ltb-false, eq-eqb, ne-eqb}
 use Rattle.common.proofs.Tests.{by-test, same-ltb}
 use Rattle.reduction.specs.Search.{headroom, takes}
+use Rattle.reduction.specs.CutOff.{cutOff}
 
--- b < x − a, with its sign and cut off at 0
-below-difference : (b x a : ℕ) → ltZ (pos b) (subℕ x a) ≡ ltb b (x - a)
-below-difference b x a =
-    by-test (ltb x a)
-    (λ e. let h = ltb-true x a e in rw e (sym (le-ltb b (x - a) (omega arith))))
-    (λ e. rw e)
+-- b is not below zero, so it is below c just where it is below c cut off
+pub below-cut : (b : ℕ) (c : ℤ) → ltZ (pos b) c ≡ ltb b (cutOff c)
+below-cut b (pos n) = refl
+below-cut b (negsuc n) = sym (le-ltb b 0 zero-le)
 
--- x − a < y − a
-both-less : (x y a : ℕ) → ltZ (subℕ x a) (subℕ y a) ≡ ltb x y
-both-less x y a =
-    by-test (ltb x a)
-    (λ e. let h = ltb-true x a e in
-    by-test (ltb y a)
-    (λ d. let g = ltb-true y a d in
-    rw (e, d) (same-ltb (a - suc y) (a - suc x) x y (λ p. omega arith) (λ p. omega arith)))
-    (λ d. let g = ltb-false y a d in rw (e, d) (sym (lt-ltb x y (omega arith)))))
-    (λ e. let h = ltb-false x a e in
-    by-test (ltb y a)
-    (λ d. let g = ltb-true y a d in rw (e, d) (sym (le-ltb x y (omega arith))))
-    (λ d. let g = ltb-false y a d in
-    rw (e, d) (same-ltb (x - a) (y - a) x y (λ p. omega arith) (λ p. omega arith))))
+-- x − y cut off is the difference of natural numbers
+cut-difference : (x y : ℕ) → cutOff (subℕ x y) ≡ x - y
+cut-difference x y = by-test (ltb x y) (λ e. let h = ltb-true x y e in rw e (omega arith)) (λ e. rw e)
 
--- B < C, where both differences are cut off at 0 before the greater is taken
-pub headroom-cut : (b a l : ℕ) → ltZ (pos b) (headroom b a l) ≡ ltb b (max (b - a) (l - a))
+-- x − y < z − y
+both-less : (x z y : ℕ) → ltZ (subℕ x y) (subℕ z y) ≡ ltb x z
+both-less x z y =
+    by-test (ltb x y)
+    (λ e. let h = ltb-true x y e in
+    by-test (ltb z y)
+    (λ d. let g = ltb-true z y d in
+    rw (e, d) (same-ltb (y - suc z) (y - suc x) x z (λ p. omega arith) (λ p. omega arith)))
+    (λ d. let g = ltb-false z y d in rw (e, d) (sym (lt-ltb x z (omega arith)))))
+    (λ e. let h = ltb-false x y e in
+    by-test (ltb z y)
+    (λ d. let g = ltb-true z y d in rw (e, d) (sym (le-ltb x z (omega arith))))
+    (λ d. let g = ltb-false z y d in
+    rw (e, d) (same-ltb (x - y) (z - y) x z (λ p. omega arith) (λ p. omega arith))))
+
+-- C cut off is the greater of both differences cut off
+pub cut-headroom : (b held limit : ℕ) → cutOff (headroom b held limit) ≡ max (b - held) (limit - held)
 unfolding headroom
-headroom-cut b a l =
-    by-test (ltZ (subℕ b a) (subℕ l a))
-    (λ e. let h = ltb-true b l (sym (both-less b l a) ∙ e) in
-    rw e (below-difference b l a ∙ ap (ltb b) (omega arith)))
-    (λ e. let h = ltb-false b l (sym (both-less b l a) ∙ e) in
-    rw e (below-difference b b a ∙ ap (ltb b) (omega arith)))
+cut-headroom b held limit =
+    by-test (ltZ (subℕ b held) (subℕ limit held))
+    (λ e. let h = ltb-true b limit (sym (both-less b limit held) ∙ e) in rw e (cut-difference limit held ∙ omega arith))
+    (λ e. let h = ltb-false b limit (sym (both-less b limit held) ∙ e) in rw e (cut-difference b held ∙ omega arith))
 
--- C cut off at 0 takes the same candidates: an answer looks at C nowhere else
-pub cut-off-takes : (b a l : ℕ) → takes b a l ≡ eqb a 0 || ltb b (max (b - a) (l - a))
+-- with nothing existing the candidate is taken, and else by L − A cut off: B − A is below B
+pub takes-none : (b held limit : ℕ) → ltb 0 held ≡ false → takes b held limit ≡ true
 unfolding takes
-cut-off-takes b a l = ap (λ (t : Bool). eqb a 0 || t) (headroom-cut b a l)
+takes-none b held limit e = rw (eq-eqb held 0 (omega (arith, ltb-false 0 held e)))
 
--- with nothing existing, and else
-pub takes-none : (b a l : ℕ) → ltb 0 a ≡ false → takes b a l ≡ true
+pub takes-some : (b held limit : ℕ) → ltb 0 held ≡ true → takes b held limit ≡ ltb b (limit - held)
 unfolding takes
-takes-none b a l e = rw (eq-eqb a 0 (omega (arith, ltb-false 0 a e)))
-
-pub takes-some : (b a l : ℕ) → ltb 0 a ≡ true → takes b a l ≡ ltb b (l - a)
-takes-some b a l e =
-    let some = ltb-true 0 a e in
-    cut-off-takes b a l
-    ∙ rw (ne-eqb a 0 (λ z. omega arith)) (same-ltb b (max (b - a) (l - a)) b (l - a) (λ p. omega arith) (λ p. omega arith))
+takes-some b held limit e =
+    let some = ltb-true 0 held e in
+    rw (ne-eqb held 0 (λ z. omega arith))
+    (below-cut b (headroom b held limit) ∙ ap (ltb b) (cut-headroom b held limit)
+    ∙ same-ltb b (max (b - held) (limit - held)) b (limit - held) (λ p. omega arith) (λ p. omega arith))

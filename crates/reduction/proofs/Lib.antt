@@ -3,6 +3,7 @@ pub mod Growth
 pub mod Distance
 pub mod Range
 pub mod Headroom
+pub mod CutOff
 pub mod Compared
 pub mod Candidates
 pub mod Earliest

@@ -6,7 +6,7 @@ use Prim.Native.Nat.{ℕ, _≤_}
 use borrow.Author.Tests.{ltb-false, le-ltb}
 use Rattle.common.proofs.Tests.{or-false}
 use Rattle.reduction.specs.declared.Application.{Application}
-use Rattle.reduction.specs.Range.{mostPence, outside, wrongMember, wrongFigures, outOfRange, InRange}
+use Rattle.reduction.specs.Range.{mostPence, outside, wrongMember, wrongAmounts, outOfRange, InRange}
 
 within : (least most x : ℕ) → outside least most x ≡ false → (least ≤ x) × (x ≤ most)
 unfolding outside
@@ -19,7 +19,7 @@ unfolding outside
 inside least most x l m = rw (le-ltb x least l, le-ltb most x m)
 
 pub in-range : (a : Application) → outOfRange a ≡ false → InRange a
-unfolding outOfRange wrongMember wrongFigures
+unfolding outOfRange wrongMember wrongAmounts
 in-range a e =
     let both = or-false _ _ e in
     let ages = or-false _ _ (both .0) in
@@ -46,7 +46,7 @@ in-range a e =
     }
 
 pub not-out : (a : Application) → InRange a → outOfRange a ≡ false
-unfolding outOfRange wrongMember wrongFigures
+unfolding outOfRange wrongMember wrongAmounts
 not-out a in-it =
     rw (
       inside 66 70 (a .npa) (in-it .npa-low) (in-it .npa-high),

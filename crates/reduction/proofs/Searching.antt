@@ -16,11 +16,11 @@ use Rattle.reduction.specs.declared.Potentials.{Potentials}
 use Rattle.reduction.specs.Power.{powerOf}
 use Rattle.reduction.specs.Potential.{potentialOf}
 use Rattle.reduction.specs.Range.{InRange}
-use Rattle.reduction.specs.Search.{candidateOf, factorOf, yearsTo, potentialAt, takes, takesAt, belowNpa, searchFrom, earliestAge}
-use Rattle.reduction.specs.Limit.{answeredLimit, reductionLimitOf}
+use Rattle.reduction.specs.Search.{candidateOf, factorOf, yearsTo, potentialAt, takes, takesAt, belowNpa, searchBy}
+use Rattle.reduction.specs.Answer.{answeredReduction, reductionLimitOf}
 use Rattle.reduction.specs.Noted.{nothingNoted, notedAt}
 use Rattle.reduction.proofs.Growth.{power-more, power-most}
-use Rattle.reduction.proofs.Candidates.{candidate-least, candidate-first, candidate-later, candidates-rise, candidates-apart, below-npa, not-below-npa, first-below, age-before, years-few}
+use Rattle.reduction.proofs.Candidates.{searchFrom, earliestAge, candidate-least, candidate-first, candidate-later, candidates-rise, candidates-apart, below-npa, not-below-npa, first-below, age-before, years-few}
 use Rattle.reduction.proofs.Answers.{triedOf, tried, answered, shown-untaken, shown-taken}
 
 -- before candidate k, of this age: its power, what is left to search, and the B of the candidates before it, all of them below NPA
@@ -31,7 +31,7 @@ pub record Searching (a : Application) (k age power : ℕ) (p : Potentials) : Ty
   pub low : age ≤ a .npa
   pub grown : power ≡ powerOf (yearsTo a k)
   pub rest : earliestAge a ≡ searchFrom a k (3 - k)
-  pub kept : p ≡ tried a k
+  pub noted : p ≡ tried a k
 
 -- one B more
 noted-more : (a : Application) (k : ℕ) (b : PensionPence) → k < 3 → b ≡ pension (potentialAt a k) → notedAt (tried a k) k b ≡ tried a (k + 1)
@@ -43,7 +43,7 @@ noted-more a (suc (suc (suc k))) b h e = absurd (omega arith)
 
 -- one candidate that is not taken
 further : (a : Application) (k n : ℕ) → belowNpa a k ≡ true → takesAt a k ≡ false → searchFrom a k (suc n) ≡ searchFrom a (suc k) n
-unfolding searchFrom
+unfolding searchBy
 further a k n below t = rw (below, t)
 
 -- before the first
@@ -56,7 +56,7 @@ module _ (a : Application) (in-it : InRange a) {age : ℕ} (first : age ≡ max 
   first-few = omega (arith, candidate-first a first, years-few a in-it 0 (first-below a in-it))
 
   pub begun : {power : ℕ} {p : Potentials} → power ≡ powerOf (age - a .age) → p ≡ nothingNoted → Searching a 0 age power p
-  unfolding earliestAge triedOf yearsTo
+  unfolding triedOf yearsTo
   begun e nothing =
       let is = candidate-first a first in
       record {
@@ -66,7 +66,7 @@ module _ (a : Application) (in-it : InRange a) {age : ℕ} (first : age ≡ max 
         low = omega (arith, first-below a in-it);
         grown = e ∙ ap (λ (n : ℕ). powerOf (n - a .age)) is;
         rest = refl;
-        kept = nothing;
+        noted = nothing;
       }
 
 module _ (a : Application) {k age power : ℕ} {p : Potentials} (s : Searching a k age power p) where
@@ -89,8 +89,8 @@ module _ (a : Application) {k age power : ℕ} {p : Potentials} (s : Searching a
   before-below j e = below-npa a j (omega (arith, candidates-apart a j k (ltb-true j k e), s .is, s .low))
 
   -- a candidate that is not below NPA ends the search
-  pub past-npa : k < 3 → a .npa ≤ age → answeredLimit 0 p ≡ reductionLimitOf a
-  unfolding searchFrom
+  pub past-npa : k < 3 → a .npa ≤ age → answeredReduction 0 p ≡ reductionLimitOf a
+  unfolding searchBy
   past-npa h past =
       let here = not-below-npa a k (omega (arith, s .is)) in
       let none : earliestAge a ≡ 0 = searching-on h ∙ rw here in
@@ -98,16 +98,16 @@ module _ (a : Application) {k age power : ℕ} {p : Potentials} (s : Searching a
       λ j. by-test (ltb j k)
       (λ e. rw e (before-below j e))
       (λ e. rw e (not-below-npa a j (omega (arith, candidates-rise a k j (ltb-false j k e), s .is)))) in
-      rw (s .kept) (answered a (s .in-it) k 0 none (λ j l. shown-untaken a k j none (at-npa j)))
+      rw (s .noted) (answered a (s .in-it) k 0 none (λ j l. shown-untaken a k j (at-npa j)))
 
   -- no candidate is left
-  pub none-left : 3 ≤ k → answeredLimit 0 p ≡ reductionLimitOf a
-  unfolding searchFrom
+  pub none-left : 3 ≤ k → answeredReduction 0 p ≡ reductionLimitOf a
+  unfolding searchBy
   none-left h =
       let over : 3 - k ≡ 0 = omega arith in
       let none : earliestAge a ≡ 0 = s .rest ∙ rw over in
       let all : (j : ℕ) → j < 3 → ltb j k ≡ true = λ j l. lt-ltb j k (omega arith) in
-      rw (s .kept) (answered a (s .in-it) k 0 none (λ j l. shown-untaken a k j none (before-below j (all j l) ∙ sym (all j l))))
+      rw (s .noted) (answered a (s .in-it) k 0 none (λ j l. shown-untaken a k j (before-below j (all j l) ∙ sym (all j l))))
 
   -- an age is none of the 0s that say that there is no scope
   pub some-age : true ≡ ltb 0 age
@@ -131,18 +131,18 @@ module _ (a : Application) {k age power : ℕ} {p : Potentials} (s : Searching a
       value = is ∙ rw (its, years-are)
 
       more : notedAt p k b ≡ tried a (k + 1)
-      more = rw (s .kept) (noted-more a k b h value)
+      more = rw (s .noted) (noted-more a k b h value)
 
       test : {t v : Bool} → t ≡ takes (b .0) (a .existing .0) (a .limit .0) → t ≡ v → takesAt a k ≡ v
       unfolding takesAt
       test told e = rw value at (sym told ∙ e)
 
       module _ {t : Bool} {q : Potentials} (told : t ≡ takes (b .0) (a .existing .0) (a .limit .0)) (noted : q ≡ notedAt p k b) where
-        pub taken-here : t ≡ true → answeredLimit age q ≡ reductionLimitOf a
-        unfolding searchFrom
+        pub taken-here : t ≡ true → answeredReduction age q ≡ reductionLimitOf a
+        unfolding searchBy
         taken-here e =
             let found : earliestAge a ≡ candidateOf a k = searching-on h ∙ rw (below-npa a k here-below, test told e) in
-            rw (noted, more, s .is) (answered a (s .in-it) (k + 1) (candidateOf a k) found (λ j l. shown-taken a k found here-below j))
+            rw (noted, more, s .is) (answered a (s .in-it) (k + 1) (candidateOf a k) found (λ j l. shown-taken a k here-below j))
 
         pub one-further : {next : ℕ} → t ≡ false → next ≡ halfUp (power * 1015) 1000 → Searching a (k + 1) (age + 1) next q
         unfolding yearsTo
@@ -156,5 +156,5 @@ module _ (a : Application) {k age power : ℕ} {p : Potentials} (s : Searching a
               low = omega arith;
               grown = grown ∙ power-more (yearsTo a k) power (s .grown) ∙ ap powerOf years;
               rest = searching-on h ∙ further a k (2 - k) (below-npa a k here-below) (test told e) ∙ rw (left, add-one);
-              kept = noted ∙ more;
+              noted = noted ∙ more;
             }

@@ -10,26 +10,27 @@ use borrow.Author.Tests.{eqb-true, leb-true, eq-eqb, le-leb, le-ltb}
 use Rattle.common.proofs.Tests.{by-test, or-true}
 use Rattle.reduction.specs.declared.Application.{Application}
 use Rattle.reduction.specs.Range.{outOfRange, InRange}
-use Rattle.reduction.specs.Search.{candidateOf, potentialAt, takesAt, belowNpa, searchFrom, earliestAge}
-use Rattle.reduction.specs.Limit.{LimitNumbers, shownOf, refusedLimit, reductionLimitOf}
-use Rattle.reduction.specs.Told.{givenFor, Shown, RefusedLimitTold, FoundTold}
+use Rattle.reduction.specs.Search.{candidateOf, potentialAt, takesAt, belowNpa, searchBy}
+use Rattle.reduction.specs.Answer.{ReductionNumbers, shownOf, refusedReduction, reductionBy, reductionLimitOf}
+use Rattle.reduction.specs.Told.{givenFor, Shown, RefusedReductionTold, AcceptedTold}
+use Rattle.reduction.proofs.Near.{near-wider}
 use Rattle.reduction.proofs.Range.{in-range, not-out}
 use Rattle.reduction.proofs.Headroom.{takes-none}
-use Rattle.reduction.proofs.Candidates.{below-npa, is-below, first-below, near-at}
+use Rattle.reduction.proofs.Candidates.{earliestAge, below-npa, is-below, first-below, close-at}
 use Rattle.reduction.proofs.Earliest.{given-earliest, none-given, given-none}
 
 module _ (a : Application) where
-  abbrev answer : LimitNumbers
+  abbrev answer : ReductionNumbers
   answer = reductionLimitOf a
 
   -- out of range
-  pub refused : outOfRange a ≡ true → answer ≡ refusedLimit
-  unfolding reductionLimitOf
+  pub refused : outOfRange a ≡ true → answer ≡ refusedReduction
+  unfolding reductionLimitOf reductionBy
   refused e = rw e
 
   -- an answer that is no refusal
   fine : answer .refusal ≡ 0 → outOfRange a ≡ false
-  unfolding reductionLimitOf
+  unfolding reductionLimitOf reductionBy
   fine z = by-test (outOfRange a) (λ e. absurd (eighteen (rw e at z))) (λ e. e)
     where
       eighteen : (_≡_ {A = ℕ} 18 0) → ⊥
@@ -38,15 +39,15 @@ module _ (a : Application) where
   -- in range
   module _ (in-it : outOfRange a ≡ false) where
     no-refusal : answer .refusal ≡ 0
-    unfolding reductionLimitOf
+    unfolding reductionLimitOf reductionBy
     no-refusal = rw in-it
 
     age-is : answer .age ≡ earliestAge a
-    unfolding reductionLimitOf
+    unfolding reductionLimitOf reductionBy
     age-is = rw in-it
 
-    given-is : (k : ℕ) → k < 3 → givenFor answer k ≡ shownOf a k
-    unfolding reductionLimitOf
+    given-is : (k : ℕ) → k < 3 → givenFor answer k ≡ shownOf a (earliestAge a) k
+    unfolding reductionLimitOf reductionBy
     given-is zero h = rw in-it
     given-is (suc zero) h = rw in-it
     given-is (suc (suc zero)) h = rw in-it
@@ -54,7 +55,7 @@ module _ (a : Application) where
 
     -- with nothing existing the first candidate is taken
     untested : a .existing .0 ≡ 0 → earliestAge a ≡ candidateOf a 0
-    unfolding earliestAge searchFrom takesAt
+    unfolding searchBy takesAt
     untested none =
         rw (
           below-npa a 0 (first-below a (in-range a in-it)),
@@ -62,7 +63,7 @@ module _ (a : Application) where
         )
 
     -- what is shown, and what is not
-    shows : (k : ℕ) → Shown a (earliestAge a) k → shownOf a k ≡ potentialAt a k
+    shows : (k : ℕ) → Shown a (earliestAge a) k → shownOf a (earliestAge a) k ≡ potentialAt a k
     unfolding shownOf
     shows k s =
         ⊎-elim
@@ -70,7 +71,7 @@ module _ (a : Application) where
         (λ l. rw (below-npa a k (s .below), le-leb (candidateOf a k) (earliestAge a) l, or-true (eqb (earliestAge a) 0)))
         (s .until)
 
-    hides : (k : ℕ) → k < 3 → (Shown a (earliestAge a) k → ⊥) → shownOf a k ≡ 0
+    hides : (k : ℕ) → k < 3 → (Shown a (earliestAge a) k → ⊥) → shownOf a (earliestAge a) k ≡ 0
     unfolding shownOf
     hides k h hidden =
         by-test (belowNpa a k)
@@ -81,8 +82,8 @@ module _ (a : Application) where
         (λ l. rw (b, z, l))))
         (λ b. rw b)
 
-  pub refused-limit-told : RefusedLimitTold a answer
-  refused-limit-told =
+  pub refused-reduction-told : RefusedReductionTold a answer
+  refused-reduction-told =
       record {
         eighteen = λ out. rw (refused (is-out out));
         zeros = λ out. rw (refused (is-out out)) (refl, (refl, (refl, refl)));
@@ -93,8 +94,8 @@ module _ (a : Application) where
       is-out : (InRange a → ⊥) → outOfRange a ≡ true
       is-out out = by-test (outOfRange a) (λ e. e) (λ e. absurd (out (in-range a e)))
 
-  pub found-told : FoundTold a answer
-  found-told =
+  pub accepted-told : AcceptedTold a answer
+  accepted-told =
       record {
         earliest = λ z some. rw (age-is (fine z)) (given-earliest a (λ e. some (age-is (fine z) ∙ e)));
         no-scope = λ z none. none-given a (sym (age-is (fine z)) ∙ none);
@@ -102,7 +103,7 @@ module _ (a : Application) where
         untested = λ z none. age-is (fine z) ∙ untested (fine z) none;
         shown = λ z k s. given-shown (fine z) k s;
         others = λ z k h hidden. given-is (fine z) k h ∙ hides (fine z) k h (λ s. hidden (rw (age-is (fine z)) s));
-        near = λ z k s. rw (given-shown (fine z) k s) (near-at a (in-range a (fine z)) k (s .below));
+        near = λ z k s. rw (given-shown (fine z) k s) (near-wider (omega arith) (close-at a (in-range a (fine z)) k (s .below)));
       }
     where
       given-shown : (in-it : outOfRange a ≡ false) (k : ℕ) → Shown a (answer .age) k → givenFor answer k ≡ potentialAt a k

@@ -3,7 +3,8 @@ pub mod Power
 pub mod Potential
 pub mod Range
 pub mod Search
-pub mod Limit
+pub mod Answer
 pub mod Told
+pub mod CutOff
 pub mod Bounds
 pub mod Noted

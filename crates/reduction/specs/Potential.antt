@@ -1,6 +1,6 @@
 -- Request 4 of document 02: B, the greatest pension a year that a buy-out up to a candidate age can be worth.
 -- Assumes nothing.
-use Prim.Native.Nat.{ℕ, _*_, _-_}
+use Prim.Native.Nat.{ℕ, _*_, _-_, _≤_}
 use Rattle.rounding.specs.Nearest.{halfUp}
 use Rattle.reduction.specs.Near.{Near}
 use Rattle.reduction.specs.Power.{billion, powerOf, powerNum, powerDen}
@@ -20,3 +20,8 @@ potentialDen years = 54 * 1000 * billion * powerDen years
 -- b is within s pence of it
 abbrev pub NearPotential : (s years pay erf b : ℕ) → Type 0
 NearPotential s years pay erf b = Near s b (potentialNum years pay erf) (potentialDen years)
+
+-- with up to 45 years and £200,000 B is within 2 pence of its exact value, and even within one
+pub record PotentialTold : Type 0 where
+  pub near : (years pay erf : ℕ) → years ≤ 45 → pay ≤ 200000 → NearPotential 2 years pay erf (potentialOf years pay erf)
+  pub close : (years pay erf : ℕ) → years ≤ 45 → pay ≤ 200000 → NearPotential 1 years pay erf (potentialOf years pay erf)

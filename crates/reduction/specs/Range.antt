@@ -18,8 +18,8 @@ unfoldable pub wrongMember : Application → Bool
 wrongMember a = outside 66 70 (a .npa) || (outside 24 64 (a .age) || outside 1 200000 (a .pay))
 
 -- a factor above 1,000 thousandths, whether it is used or not; A or L above £1,000,000
-unfoldable pub wrongFigures : Application → Bool
-wrongFigures a =
+unfoldable pub wrongAmounts : Application → Bool
+wrongAmounts a =
     ltb 1000 (a .«erf_first»)
     || (ltb 1000 (a .«erf_second»)
     || (ltb 1000 (a .«erf_third»)
@@ -28,7 +28,7 @@ wrongFigures a =
 
 -- 18: any of these
 unfoldable pub outOfRange : Application → Bool
-outOfRange a = wrongMember a || wrongFigures a
+outOfRange a = wrongMember a || wrongAmounts a
 
 -- an application that 18 does not refuse
 pub record InRange (a : Application) : Type 0 where

@@ -47,11 +47,7 @@ takesAt a k = takes (potentialAt a k) (a .existing .0) (a .limit .0)
 unfoldable pub belowNpa : Application → ℕ → Bool
 belowNpa a k = ltb (candidateOf a k) (a .npa)
 
--- of n candidates from k on the first that is taken; 0, no scope, at one that is not below NPA, and where none is left
-unfoldable pub searchFrom : Application → (k n : ℕ) → ℕ
-searchFrom a k zero = 0
-searchFrom a k (suc n) = pick (belowNpa a k) (pick (takesAt a k) (candidateOf a k) (searchFrom a (suc k) n)) 0
-
--- the earliest reduced retirement age, 0 for no scope
-unfoldable pub earliestAge : Application → ℕ
-earliestAge a = searchFrom a 0 3
+-- of n candidates from k on the first that is taken, by a test; 0, no scope, at one that is not below NPA, and where none is left
+unfoldable pub searchBy : (taken : ℕ → Bool) → Application → (k n : ℕ) → ℕ
+searchBy taken a k zero = 0
+searchBy taken a k (suc n) = pick (belowNpa a k) (pick (taken k) (candidateOf a k) (searchBy taken a (suc k) n)) 0

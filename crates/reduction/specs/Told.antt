@@ -9,7 +9,7 @@ use Rattle.reduction.specs.declared.Application.{Application}
 use Rattle.reduction.specs.Potential.{NearPotential}
 use Rattle.reduction.specs.Range.{InRange}
 use Rattle.reduction.specs.Search.{candidateOf, yearsTo, factorOf, potentialAt, headroom}
-use Rattle.reduction.specs.Limit.{LimitNumbers}
+use Rattle.reduction.specs.Answer.{ReductionNumbers}
 
 -- candidate k is below NPA, and A is 0 or B < C
 pub record Passing (a : Application) (k : ℕ) : Type 0 where
@@ -29,7 +29,7 @@ abbrev pub NonePassing : Application → Type 0
 NonePassing a = (k : ℕ) → k < 3 → Passing a k → ⊥
 
 -- the B that is given for candidate k
-abbrev pub givenFor : LimitNumbers → ℕ → ℕ
+abbrev pub givenFor : ReductionNumbers → ℕ → ℕ
 givenFor n zero = n .first
 givenFor n (suc zero) = n .second
 givenFor n (suc (suc k)) = n .third
@@ -41,7 +41,7 @@ pub record Shown (a : Application) (age k : ℕ) : Type 0 where
   pub until : (age ≡ 0) ⊎ (candidateOf a k ≤ age)
 
 -- what is refused
-pub record RefusedLimitTold (a : Application) (n : LimitNumbers) : Type 0 where
+pub record RefusedReductionTold (a : Application) (n : ReductionNumbers) : Type 0 where
   -- where an input is out of range, 18 and nothing else,
   pub eighteen : (InRange a → ⊥) → n .refusal ≡ 18
   pub zeros : (InRange a → ⊥) → (n .age ≡ 0) × ((n .first ≡ 0) × ((n .second ≡ 0) × (n .third ≡ 0)))
@@ -49,8 +49,8 @@ pub record RefusedLimitTold (a : Application) (n : LimitNumbers) : Type 0 where
   pub none : InRange a → n .refusal ≡ 0
   pub in-range : n .refusal ≡ 0 → InRange a
 
--- what is found for an application that is not refused
-pub record FoundTold (a : Application) (n : LimitNumbers) : Type 0 where
+-- what an application is answered that is not refused
+pub record AcceptedTold (a : Application) (n : ReductionNumbers) : Type 0 where
   -- an age that is given is the earliest candidate that passes
   pub earliest : n .refusal ≡ 0 → (n .age ≡ 0 → ⊥) → EarliestPassing a (n .age)
   -- 0 is given just where none does

@@ -6,30 +6,30 @@ ghost use Rattle.rounding.specs.Nearest.{halfUp};
 ghost use Rattle.money.specs.Money.{pension};
 ghost use Rattle.reduction.specs.Power.{powerOf};
 ghost use Rattle.reduction.specs.Potential.{potentialOf};
-ghost use Rattle.reduction.specs.Range.{outside, wrongMember, wrongFigures, outOfRange};
+ghost use Rattle.reduction.specs.Range.{outside, wrongMember, wrongAmounts, outOfRange};
 ghost use Rattle.reduction.specs.Search.{factorOf, takes};
-ghost use Rattle.reduction.specs.Limit.{reductionLimitOf, numbersOf, isRefused, hasScope};
-ghost use Rattle.reduction.specs.Told.{RefusedLimitTold, FoundTold};
+ghost use Rattle.reduction.specs.Answer.{reductionLimitOf, numbersOf, isRefused, hasScope};
+ghost use Rattle.reduction.specs.Told.{RefusedReductionTold, AcceptedTold};
 ghost use Rattle.reduction.specs.Noted.{nothingNoted, notedAt};
 use money::PensionPence;
 
 // What is asked. Any numbers: `reduction_limit` refuses those that are out of range.
 pub struct Application {
-    // normal pension age and age, in whole years
+    // normal pension age (NPA) and age, in whole years
     pub npa: u32,
     pub age: u32,
     // whole-time pay, in whole pounds a year
     pub pay: u32,
-    // the early-retirement factors of the three candidates, in thousandths
+    // the early-retirement factor (ERF) of each candidate: what it leaves of a pension, in thousandths
     pub erf_first: u32,
     pub erf_second: u32,
     pub erf_third: u32,
-    // Additional Pension that is there already, and the overall limit
+    // A, the Additional Pension that is there already, and L, the overall limit
     pub existing: PensionPence,
     pub limit: PensionPence,
 }
 
-// B of each candidate, nothing for one that is not tried.
+// B of each candidate, what a buy-out up to it can be worth at most; nothing for one that is not tried.
 pub struct Potentials {
     pub first: PensionPence,
     pub second: PensionPence,
@@ -74,14 +74,15 @@ fn power_to(years: u32) -> u64
     power
 }
 
-// B of a candidate. A hundred is cancelled above and below the line: with it the product would not fit 64 bits.
+// B of a candidate, over 54 × 1,000 × 10^9. The hundred that makes pounds pence is cancelled, which leaves 540 × 10^9: with it the product
+// would not fit 64 bits.
 fn potential(years: u32, power: u64, pay: u32, erf: u32) -> PensionPence
     requires { ⌜ (years ≤ 45) × ((power ≡ powerOf years) × ((pay ≤ 200000) × (erf ≤ 1000))) ⌝ }
     ensures { λ r. ⌜ r ≡ pension (potentialOf years pay erf) ⌝ }
 {
-    let kept = 1000 - erf;
+    let reduction = 1000 - erf;
     PensionPence::of_quotient(
-        years as u64 * pay as u64 * power * kept as u64,
+        years as u64 * pay as u64 * power * reduction as u64,
         540 * BILLION,
     )
 }
@@ -95,7 +96,7 @@ fn outside(least: u32, most: u32, x: u32) -> bool
     most < x
 }
 
-// Pension age, age and pay.
+// The first half of the tests: pension age, age and pay.
 fn wrong_member(a: Application) -> bool
     ensures { λ r. ⌜ r ≡ wrongMember a ⌝ }
 {
@@ -108,9 +109,9 @@ fn wrong_member(a: Application) -> bool
     outside(1, 200000, a.pay)
 }
 
-// The factors, used or not, the existing pension and the limit.
-fn wrong_figures(a: Application) -> bool
-    ensures { λ r. ⌜ r ≡ wrongFigures a ⌝ }
+// The second half: the factors, used or not, the existing pension and the limit.
+fn wrong_amounts(a: Application) -> bool
+    ensures { λ r. ⌜ r ≡ wrongAmounts a ⌝ }
 {
     if 1000 < a.erf_first {
         return true;
@@ -136,7 +137,7 @@ fn out_of_range(a: Application) -> bool
     if wrong_member(a) {
         return true;
     }
-    wrong_figures(a)
+    wrong_amounts(a)
 }
 
 // The higher of 65 and NPA − 3.
@@ -160,8 +161,8 @@ fn factor(a: Application, k: u32) -> u32
     }
 }
 
-// Whether a candidate is taken. B − A is never above B, so of the two that C is the greater of L − A decides; and cut off at 0 it is
-// above B just where it is with its sign.
+// Whether a candidate is taken: untested with nothing existing, else if B < C. Of the two in C only L − A can be above B; and as B is not
+// below zero, L − A may be cut off at 0.
 fn takes(b: PensionPence, existing: PensionPence, limit: PensionPence) -> bool
     ensures { λ r. ⌜ r ≡ takes (b .0) (existing .0) (limit .0) ⌝ }
 {
@@ -204,12 +205,12 @@ impl Potentials {
     }
 }
 
-// The first candidate below NPA that is taken, with the B of those up to it. The power of each candidate is that of the one before it,
-// a year further.
+// The first candidate below NPA that is taken, with the B of those up to it; or no scope, with the B of all below NPA. The power of each
+// candidate is that of the one before it, a year further.
 pub fn reduction_limit(a: Application) -> ReductionLimit
     ensures is { λ r. ⌜ numbersOf r ≡ reductionLimitOf a ⌝ }
-    ensures refusals { λ r. ⌜ RefusedLimitTold a (numbersOf r) ⌝ }
-    ensures found { λ r. ⌜ FoundTold a (numbersOf r) ⌝ }
+    ensures refusals { λ r. ⌜ RefusedReductionTold a (numbersOf r) ⌝ }
+    ensures accepted { λ r. ⌜ AcceptedTold a (numbersOf r) ⌝ }
     ensures refused { λ r. ⌜ isRefused r ≡ ltb 0 (reductionLimitOf a .refusal) ⌝ }
     ensures scope { λ r. ⌜ hasScope r ≡ ltb 0 (reductionLimitOf a .age) ⌝ }
 {
@@ -219,19 +220,22 @@ pub fn reduction_limit(a: Application) -> ReductionLimit
     let existing = a.existing;
     let limit = a.limit;
     let mut potentials = Potentials::none();
-    let mut age = first_candidate(a.npa);
-    let mut power = power_to(age - a.age);
+    let mut candidate = first_candidate(a.npa);
+    let mut power = power_to(candidate - a.age);
     let mut k: u32 = 0;
     while k < CANDIDATES {
-        if a.npa <= age {
+        if a.npa <= candidate {
             return ReductionLimit::NoScope(potentials);
         }
-        let b = potential(age - a.age, power, a.pay, factor(a, k));
+        let b = potential(candidate - a.age, power, a.pay, factor(a, k));
         potentials = potentials.noted(k, b);
         if takes(b, existing, limit) {
-            return ReductionLimit::Found { age, potentials };
+            return ReductionLimit::Found {
+                age: candidate,
+                potentials,
+            };
         }
-        age += 1;
+        candidate += 1;
         power = grown(power);
         k += 1;
     }

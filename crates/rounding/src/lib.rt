@@ -5,7 +5,8 @@ ghost use Prim.Native.Nat.{_%_};
 ghost use Rattle.rounding.specs.HalfEven.{halfEven};
 ghost use Rattle.rounding.specs.Nearest.{halfUp, nearest, blend};
 
-// n ÷ d to the nearest whole number, a half going up; 0 where d is 0. From half of d on it is at least 1, and one more for each further d.
+// n ÷ d to the nearest whole number, a half going up; 0 where d is 0. Below half of d, which is rounded up here, it is 0; from there on 1,
+// and one more for each further d.
 pub fn half_up(n: u64, d: u64) -> u64
     ensures { λ r. ⌜ r ≡ halfUp n d ⌝ }
 {

@@ -1,44 +1,53 @@
 -- Request 4 of document 02: the figures of its text, the edges of the search, and figures at which a misreading would show. A row holds
 -- what the definitions give and what is stated.
 -- Assumes nothing.
-use mathlib.Core.List.{List, [], _∷_, _++_}
+use mathlib.Core.List.{List, [], _∷_, _++_, map}
 use Prim.Native.Nat.{ℕ, _*_, _-_}
 use Rattle.money.specs.Money.{pension}
 use Rattle.reduction.specs.Power.{powerOf}
 use Rattle.reduction.specs.Potential.{potentialOf}
-use Rattle.reduction.specs.Limit.{reductionLimitOf}
+use Rattle.reduction.specs.Answer.{ReductionNumbers, reductionLimitOf}
 use Rattle.rows.specs.Rows.{Row, _is_, only}
 
--- a member, with a factor for each candidate
+-- a member: pension age, age and pay, and a factor for each candidate
 pub record Member : Type 0 where
   pub npa : ℕ
   pub age : ℕ
   pub pay : ℕ
-  pub first : ℕ
-  pub second : ℕ
-  pub third : ℕ
+  pub erf1 : ℕ
+  pub erf2 : ℕ
+  pub erf3 : ℕ
 
--- the numbers of a reduction limit, with so much existing pension and under a limit: refusal, age, three B
-abbrev pub limited : Member → (existing limit : ℕ) → List ℕ
-limited m existing limit =
-    let n = reductionLimitOf (record {
+abbrev pub member : (npa age pay erf1 erf2 erf3 : ℕ) → Member
+member npa age pay erf1 erf2 erf3 = record { npa = npa; age = age; pay = pay; erf1 = erf1; erf2 = erf2; erf3 = erf3 }
+
+-- what a member is answered, with so much existing pension and under a limit
+abbrev pub answered : Member → (existing limit : ℕ) → ReductionNumbers
+answered m existing limit =
+    reductionLimitOf (record {
       npa = m .npa;
       age = m .age;
       pay = m .pay;
-      «erf_first» = m .first;
-      «erf_second» = m .second;
-      «erf_third» = m .third;
+      «erf_first» = m .erf1;
+      «erf_second» = m .erf2;
+      «erf_third» = m .erf3;
       existing = pension existing;
       limit = pension limit;
-    }) in
+    })
+
+-- the same as a list: refusal, age, three B
+abbrev pub limited : Member → (existing limit : ℕ) → List ℕ
+limited m existing limit =
+    let n = answered m existing limit in
     n .refusal ∷ n .age ∷ n .first ∷ n .second ∷ n .third ∷ []
 
--- document 003's members of the examples B and C; 1,000 stands for the third candidate of B, which is its pension age
+-- document 003's members of the examples B and C. B has one factor there; its second candidate has here that of C for a year before the
+-- pension age, and its third, which is the pension age, 1,000
 abbrev pub exampleB : Member
-exampleB = record { npa = 67; age = 50; pay = 30000; first = 896; second = 946; third = 1000 }
+exampleB = member 67 50 30000 896 946 1000
 
 abbrev pub exampleC : Member
-exampleC = record { npa = 68; age = 35; pay = 70000; first = 850; second = 896; third = 946 }
+exampleC = member 68 35 70000 850 896 946
 
 -- the two examples: £4,000 and £2,000 are held, and the limit is £6,924
 unfoldable pub exampleRows : List Row
@@ -47,16 +56,16 @@ exampleRows =
     ∷ (limited exampleC 200000 692400 is (0 ∷ 67 ∷ 911797 ∷ 663051 ∷ 360713 ∷ []))
     ∷ []
 
--- B with a pension age of 66
+-- the member of example B with a pension age of 66
 abbrev pub until66 : Member
-until66 = record { npa = 66; age = 50; pay = 30000; first = 896; second = 1000; third = 1000 }
+until66 = member 66 50 30000 896 1000 1000
 
--- with factors of 1: no reduction is left, and every B is 0
+-- the member of example C with factors of 1: nothing is to be bought out, and every B is 0
 abbrev pub unreduced : Member
-unreduced = record { npa = 68; age = 35; pay = 70000; first = 1000; second = 1000; third = 1000 }
+unreduced = member 68 35 70000 1000 1000 1000
 
--- nothing held, under no limit and under a limit above B; B = C, where the next candidate is tried, and a limit that is a penny more; a
--- limit below what is held; the second candidate at the pension age, at B = C and with a penny more; all three fail; C is below zero
+-- nothing held, with a limit of 0 and one above B; B = C, where the next candidate is tried, and a limit that is a penny more; a limit
+-- below what is held; the second candidate at the pension age, at B = C and with a penny more; all three fail; C is below zero
 unfoldable pub searchRows : List Row
 searchRows =
     (limited exampleB 0 0 is (0 ∷ 65 ∷ 108353 ∷ 0 ∷ 0 ∷ []))
@@ -70,13 +79,13 @@ searchRows =
     ∷ (limited unreduced 1 0 is (0 ∷ 0 ∷ 0 ∷ 0 ∷ 0 ∷ []))
     ∷ []
 
--- a year before the first candidate, with nothing kept of the pension
+-- a year before the first candidate, with factors of 0
 abbrev pub lastYear : ℕ → Member
-lastYear pay = record { npa = 66; age = 64; pay = pay; first = 0; second = 0; third = 0 }
+lastYear pay = member 66 64 pay 0 0 0
 
--- the most years at the most pay, with nothing kept of the pension
+-- the most years at the most pay, with factors of 0
 abbrev pub longest : Member
-longest = record { npa = 70; age = 24; pay = 200000; first = 0; second = 0; third = 0 }
+longest = member 70 24 200000 0 0 0
 
 -- the power of 0, 1, 4, 23 and 45 years: that of 4 rounds up, that of 23 has an exact half
 unfoldable pub powerRows : List Row
@@ -96,11 +105,22 @@ potentialRows =
     ∷ (only (45 * 200000 * powerOf 45 * (1000 - 0)) is only 17587917135000000000)
     ∷ []
 
--- refused: a pension age of 65; a factor of the candidate that is the pension age
+-- the refusal of the member of example B, with one number changed
+abbrev pub refusedFor : Member → (existing limit : ℕ) → ℕ
+refusedFor m existing limit = answered m existing limit .refusal
+
+-- the numbers on either side of each bound, and those within: pension age, age, pay, each factor, existing pension, limit
 unfoldable pub outOfRangeRows : List Row
 outOfRangeRows =
-    (limited (record { npa = 65; age = 50; pay = 30000; first = 896; second = 946; third = 1000 }) 400000 692400 is (18 ∷ 0 ∷ 0 ∷ 0 ∷ 0 ∷ []))
-    ∷ (limited (record { npa = 67; age = 50; pay = 30000; first = 896; second = 946; third = 1001 }) 0 0 is (18 ∷ 0 ∷ 0 ∷ 0 ∷ 0 ∷ []))
+    (map (λ (npa : ℕ). refusedFor (member npa 50 30000 896 946 1000) 400000 692400) (65 ∷ 66 ∷ 70 ∷ 71 ∷ []) is (18 ∷ 0 ∷ 0 ∷ 18 ∷ []))
+    ∷ (map (λ (age : ℕ). refusedFor (member 67 age 30000 896 946 1000) 400000 692400) (23 ∷ 24 ∷ 64 ∷ 65 ∷ []) is (18 ∷ 0 ∷ 0 ∷ 18 ∷ []))
+    ∷ (map (λ (pay : ℕ). refusedFor (member 67 50 pay 896 946 1000) 400000 692400) (0 ∷ 1 ∷ 200000 ∷ 200001 ∷ []) is (18 ∷ 0 ∷ 0 ∷ 18 ∷ []))
+    ∷ (map (λ (erf : ℕ). refusedFor (member 67 50 30000 erf 946 1000) 400000 692400) (1000 ∷ 1001 ∷ []) is (0 ∷ 18 ∷ []))
+    ∷ (map (λ (erf : ℕ). refusedFor (member 67 50 30000 896 erf 1000) 400000 692400) (1000 ∷ 1001 ∷ []) is (0 ∷ 18 ∷ []))
+    ∷ (map (λ (erf : ℕ). refusedFor (member 67 50 30000 896 946 erf) 0 0) (1000 ∷ 1001 ∷ []) is (0 ∷ 18 ∷ []))
+    ∷ (map (λ (held : ℕ). refusedFor exampleB held 692400) (100000000 ∷ 100000001 ∷ []) is (0 ∷ 18 ∷ []))
+    ∷ (map (λ (limit : ℕ). refusedFor exampleB 0 limit) (100000000 ∷ 100000001 ∷ []) is (0 ∷ 18 ∷ []))
+    ∷ (limited (member 65 50 30000 896 946 1000) 400000 692400 is (18 ∷ 0 ∷ 0 ∷ 0 ∷ 0 ∷ []))
     ∷ []
 
 -- all of them

@@ -2,18 +2,18 @@
 -- Assumes nothing.
 use native.Mathlib.Omega.{arith}
 use borrow.Author.Needs.{needs}
-use Rattle.host.proofs.Calls.{limit-short, limit-value-most, limit-told}
+use Rattle.host.proofs.Calls.{reduction-short, reduction-value-most, reduction-told}
 use Rattle.host.proofs.ap_reduction_limit.Statement.{statement}
 use Rattle.host.proofs.ap_reduction_limit.Tie as tie
 
 returns : tie.Need-returns
-returns c = limit-short _ _ (omega (arith, c .if1 .taken))
+returns c = reduction-short _ _ (omega (arith, c .if1 .taken))
 
 reduction-limit-requires : tie.Need-reduction-limit-requires
 reduction-limit-requires c κs = search needs
 
-limit-numbers-requires : tie.Need-limit-numbers-requires
-limit-numbers-requires c κs = search needs
+reduction-numbers-requires : tie.Need-reduction-numbers-requires
+reduction-numbers-requires c κs = search needs
 
 slice-aggregate-put-all : tie.Need-slice-aggregate-put-all
 slice-aggregate-put-all c = search needs
@@ -28,7 +28,7 @@ array-read-result c = search needs
 cast-result : tie.Need-cast-result
 cast-result c =
     let d = c .before .before .before .before .before in
-    let most = limit-value-most _ (d .before .reduction-limit .ensures .0) (d .limit-numbers .ensures) in
+    let most = reduction-value-most _ (d .before .reduction-limit .ensures .0) (d .reduction-numbers .ensures) in
     omega (arith, most)
 
 same-length : tie.Need-same-length
@@ -37,7 +37,7 @@ same-length c = search needs
 returns-2 : tie.Need-returns-2
 returns-2 c =
     let d = c .before .before .before .before .before in
-    limit-told _ _ (omega (arith, d .before .before .if1 .left)) (d .before .reduction-limit .ensures .0) (d .limit-numbers .ensures)
+    reduction-told _ _ (omega (arith, d .before .before .if1 .left)) (d .before .reduction-limit .ensures .0) (d .reduction-numbers .ensures)
     (c .before .before .put-all .ensures)
 
 pub ap-reduction-limit-spec : {M : Type 1} → statement M
@@ -46,7 +46,7 @@ ap-reduction-limit-spec =
     (tie.spec
     returns
     reduction-limit-requires
-    limit-numbers-requires
+    reduction-numbers-requires
     slice-aggregate-put-all
     put-all-requires
     array-read-result

@@ -13,13 +13,13 @@ returns : tie.Need-returns
 unfolding outOfRange
 returns c = rw (sym (c .before .wrong-member .ensures) ∙ c .if1 .taken)
 
-wrong-figures-requires : tie.Need-wrong-figures-requires
-wrong-figures-requires c κs = search needs
+wrong-amounts-requires : tie.Need-wrong-amounts-requires
+wrong-amounts-requires c κs = search needs
 
 returns-2 : tie.Need-returns-2
 unfolding outOfRange
-returns-2 c = rw (sym (c .before .before .wrong-member .ensures) ∙ c .before .if1 .left) (c .wrong-figures .ensures)
+returns-2 c = rw (sym (c .before .before .wrong-member .ensures) ∙ c .before .if1 .left) (c .wrong-amounts .ensures)
 
 pub out-of-range-spec : {M : Type 1} → statement M
 out-of-range-spec =
-    tie.close (tie.spec wrong-member-requires returns wrong-figures-requires returns-2)
+    tie.close (tie.spec wrong-member-requires returns wrong-amounts-requires returns-2)

@@ -8,8 +8,8 @@ use Rattle.reduction.proofs.Distance.{potential-cancelled, service-most
 use Rattle.reduction.proofs.potential.Statement.{statement}
 use Rattle.reduction.proofs.potential.Tie as tie
 
-sub-kept : tie.Need-sub-kept
-sub-kept c = search needs
+sub-reduction : tie.Need-sub-reduction
+sub-reduction c = search needs
 
 mul-of-quotient : tie.Need-mul-of-quotient
 mul-of-quotient c = omega (arith, service-most _ _ (c .args .erf) (c .pre .0) (c .pre .1 .1 .0))
@@ -37,7 +37,7 @@ pub potential-spec : {M : Type 1} → statement M
 potential-spec =
     tie.close
     (tie.spec
-    sub-kept
+    sub-reduction
     mul-of-quotient
     mul-of-quotient-2
     cast-of-quotient

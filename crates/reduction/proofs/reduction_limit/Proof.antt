@@ -7,43 +7,43 @@ use native.Mathlib.Omega.{arith}
 use lib.Dec.{ltb}
 use borrow.Author.Needs.{needs}
 use Rattle.reduction.specs.declared.Application.{Application}
-use Rattle.reduction.specs.Limit.{LimitNumbers, reductionLimitOf}
-use Rattle.reduction.specs.Told.{RefusedLimitTold, FoundTold}
+use Rattle.reduction.specs.Answer.{ReductionNumbers, reductionLimitOf}
+use Rattle.reduction.specs.Told.{RefusedReductionTold, AcceptedTold}
 use Rattle.reduction.proofs.Range.{in-range}
 use Rattle.reduction.proofs.Candidates.{factor-most}
 use Rattle.reduction.proofs.Searching.{Searching, first-later, first-few, begun, later, power-is, years-most, power-fits, some-age, past-npa, none-left, taken-here, one-further}
-use Rattle.reduction.proofs.Told.{refused, refused-limit-told, found-told}
+use Rattle.reduction.proofs.Told.{refused, refused-reduction-told, accepted-told}
 use Rattle.reduction.proofs.reduction_limit.Statement.{statement}
 use Rattle.reduction.proofs.reduction_limit.Tie as tie
 
 abbrev Inv-loop : tie.InvT-loop
-Inv-loop a existing limit potentials₀ age₀ power₀ k₀ potentials age power k = Searching a k age power potentials
+Inv-loop a existing limit potentials₀ candidate₀ power₀ k₀ potentials candidate power k = Searching a k candidate power potentials
 
 abbrev μ-loop : tie.MeasureT-loop
-μ-loop a existing limit potentials₀ age₀ power₀ k₀ potentials age power k = 3 - k
+μ-loop a existing limit potentials₀ candidate₀ power₀ k₀ potentials candidate power k = 3 - k
 
--- what is promised of an answer with these numbers
+-- what is promised of an answer
 module _ (a : Application) where
-  abbrev answer : LimitNumbers
+  abbrev answer : ReductionNumbers
   answer = reductionLimitOf a
 
-  abbrev Promised : LimitNumbers → Bool → Bool → Type 0
+  abbrev Promised : ReductionNumbers → Bool → Bool → Type 0
   Promised n refusal scope =
       (n ≡ answer)
-      × (RefusedLimitTold a n × (FoundTold a n × ((refusal ≡ ltb 0 (answer .refusal)) × (scope ≡ ltb 0 (answer .age)))))
+      × (RefusedReductionTold a n × (AcceptedTold a n × ((refusal ≡ ltb 0 (answer .refusal)) × (scope ≡ ltb 0 (answer .age)))))
 
-  -- whose cases say what they are
-  near : {n : LimitNumbers} {refusal scope : Bool} → n ≡ answer → refusal ≡ ltb 0 (n .refusal) → scope ≡ ltb 0 (n .age)
+  -- of one with the right numbers, whose case is the one that they say
+  promised : {n : ReductionNumbers} {refusal scope : Bool} → n ≡ answer → refusal ≡ ltb 0 (n .refusal) → scope ≡ ltb 0 (n .age)
       → Promised n refusal scope
-  near is says-refusal says-scope = (
+  promised is says-refusal says-scope = (
     is,
     (
-      subst (RefusedLimitTold a) (sym is) (refused-limit-told a),
+      subst (RefusedReductionTold a) (sym is) (refused-reduction-told a),
       (
-        subst (FoundTold a) (sym is) (found-told a),
+        subst (AcceptedTold a) (sym is) (accepted-told a),
         (
-          says-refusal ∙ ap (λ (n : LimitNumbers). ltb 0 (n .refusal)) is,
-          says-scope ∙ ap (λ (n : LimitNumbers). ltb 0 (n .age)) is,
+          says-refusal ∙ ap (λ (n : ReductionNumbers). ltb 0 (n .refusal)) is,
+          says-scope ∙ ap (λ (n : ReductionNumbers). ltb 0 (n .age)) is,
         ),
       ),
     ),
@@ -53,7 +53,7 @@ out-of-range-requires : tie.Need-out-of-range-requires Inv-loop μ-loop
 out-of-range-requires c κs = search needs
 
 returns : tie.Need-returns Inv-loop μ-loop
-returns c = near _ (sym (refused _ (sym (c .before .out-of-range .ensures) ∙ c .if1 .taken))) refl refl
+returns c = promised _ (sym (refused _ (sym (c .before .out-of-range .ensures) ∙ c .if1 .taken))) refl refl
 
 none-requires : tie.Need-none-requires Inv-loop μ-loop
 none-requires c κs = search needs
@@ -80,7 +80,7 @@ loop-holds c =
 returns-2 : tie.Need-returns-2 Inv-loop μ-loop
 returns-2 c =
     let test = c .before .before in
-    near _ (past-npa _ (test .before .loop .inv) (omega (arith, test .loop-test .taken)) (omega (arith, c .if2 .taken))) refl refl
+    promised _ (past-npa _ (test .before .loop .inv) (omega (arith, test .loop-test .taken)) (omega (arith, c .if2 .taken))) refl refl
 
 sub-potential : tie.Need-sub-potential Inv-loop μ-loop
 sub-potential c =
@@ -109,13 +109,13 @@ returns-3 c =
     let found = c .before .before .before in
     let b = found .before .before .before in
     let s = b .before .before .before .loop .inv in
-    near _
+    promised _
     (taken-here _ s (b .if2 .left) (omega (arith, b .before .before .loop-test .taken)) (found .before .factor .ensures) (found .potential .ensures)
     (c .before .takes .ensures) (c .before .before .noted .ensures) (c .if3 .taken))
     refl (some-age _ s)
 
-add-age : tie.Need-add-age Inv-loop μ-loop
-add-age c =
+add-candidate : tie.Need-add-candidate Inv-loop μ-loop
+add-candidate c =
     let b = c .before .before .before .before .before .before in
     let s = b .before .before .before .loop .inv in
     omega (arith, b .if2 .left, s .in-it .npa-high)
@@ -140,7 +140,7 @@ loop-again c =
     (c .before .if3 .left) (c .grown .ensures)
 
 returns-4 : tie.Need-returns-4 Inv-loop μ-loop
-returns-4 c = near _ (none-left _ (c .before .loop .inv) (c .loop-test .left)) refl refl
+returns-4 c = promised _ (none-left _ (c .before .loop .inv) (c .loop-test .left)) refl refl
 
 pub reduction-limit-spec : {M : Type 1} → statement M
 reduction-limit-spec =
@@ -162,7 +162,7 @@ reduction-limit-spec =
     noted-requires
     takes-requires
     returns-3
-    add-age
+    add-candidate
     grown-requires
     add-k
     loop-less

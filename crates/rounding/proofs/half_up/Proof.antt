@@ -6,7 +6,7 @@ use native.Mathlib.Nat.{div-zero, div-le-self}
 use native.Mathlib.Omega.{arith}
 use borrow.Author.Needs.{needs}
 use Rattle.rounding.specs.Nearest.{halfUp}
-use Rattle.rounding.proofs.HalfUp.{half-up-first, half-up-further}
+use Rattle.rounding.proofs.HalfUp.{half-up-zero, half-up-further}
 use Rattle.rounding.proofs.half_up.Statement.{statement}
 use Rattle.rounding.proofs.half_up.Tie as tie
 
@@ -21,7 +21,7 @@ sub-half : tie.Need-sub-half
 sub-half c = search needs
 
 returns-2 : tie.Need-returns-2
-returns-2 c = half-up-first _ _ _ refl (c .if2 .taken)
+returns-2 c = half-up-zero _ _ _ refl (c .if2 .taken)
 
 div-result : tie.Need-div-result
 div-result c = search needs

@@ -1,9 +1,7 @@
 -- `reduction::Potentials::noted` meets its contract, candidate by candidate.
 -- Assumes nothing.
-use mathlib.Core.Path.{_≡_}
-use Prim.Native.Nat.{suc, _-_}
-use native.Mathlib.Omega.{arith}
 use Rattle.reduction.specs.Noted.{notedAt}
+use Rattle.reduction.proofs.Candidates.{from-two}
 use Rattle.reduction.proofs.Potentials.noted.Statement.{statement}
 use Rattle.reduction.proofs.Potentials.noted.Tie as tie
 
@@ -17,10 +15,7 @@ returns-2 c = rw (c .match .keys2)
 
 returns-3 : tie.Need-returns-3
 unfolding notedAt
-returns-3 c =
-    let k = c .before .args .k in
-    let later : k ≡ suc (suc (k - 2)) = omega (arith, c .match .rest) in
-    rw later
+returns-3 c = rw (from-two (c .match .rest .0 .1) (c .match .rest .1))
 
 pub noted-spec : {M : Type 1} → statement M
 noted-spec = tie.close (tie.spec returns returns-2 returns-3)

@@ -1,8 +1,8 @@
--- `host::limit_numbers` meets its contract, answer by answer.
+-- `host::reduction_numbers` meets its contract, answer by answer.
 -- Assumes nothing.
 use borrow.Author.Needs.{needs}
-use Rattle.host.proofs.limit_numbers.Statement.{statement}
-use Rattle.host.proofs.limit_numbers.Tie as tie
+use Rattle.host.proofs.reduction_numbers.Statement.{statement}
+use Rattle.host.proofs.reduction_numbers.Tie as tie
 
 enum-told : tie.Need-enum-told
 enum-told c = search needs
@@ -25,7 +25,7 @@ returns-2 c = rw (c .before .answer .given .1)
 returns-3 : tie.Need-returns-3
 returns-3 c = rw (c .before .answer2 .given .1)
 
-pub limit-numbers-spec : {M : Type 1} → statement M
-limit-numbers-spec =
+pub reduction-numbers-spec : {M : Type 1} → statement M
+reduction-numbers-spec =
     tie.close
     (tie.spec enum-told enum-known-answer enum-known-answer-2 cast-t6 returns returns-2 returns-3)

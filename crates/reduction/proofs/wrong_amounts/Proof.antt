@@ -1,24 +1,24 @@
--- `reduction::wrong_figures` meets its contract: test by test.
+-- `reduction::wrong_amounts` meets its contract: test by test.
 -- Assumes nothing.
 use mathlib.Core.Path.{sym, _∙_}
 use borrow.Author.Needs.{needs}
 use borrow.Author.Tests.{le-ltb}
 use Rattle.common.proofs.Tests.{tests}
-use Rattle.reduction.specs.Range.{mostPence, wrongFigures}
+use Rattle.reduction.specs.Range.{mostPence, wrongAmounts}
 use Rattle.reduction.proofs.Compared.{above-known}
-use Rattle.reduction.proofs.wrong_figures.Statement.{statement}
-use Rattle.reduction.proofs.wrong_figures.Tie as tie
+use Rattle.reduction.proofs.wrong_amounts.Statement.{statement}
+use Rattle.reduction.proofs.wrong_amounts.Tie as tie
 
 returns : tie.Need-returns
-unfolding wrongFigures
+unfolding wrongAmounts
 returns c = search tests
 
 returns-2 : tie.Need-returns-2
-unfolding wrongFigures
+unfolding wrongAmounts
 returns-2 c = search tests
 
 returns-3 : tie.Need-returns-3
-unfolding wrongFigures
+unfolding wrongAmounts
 returns-3 c = search tests
 
 of-pounds-requires : tie.Need-of-pounds-requires
@@ -28,7 +28,7 @@ is-above-requires : tie.Need-is-above-requires
 is-above-requires c κs = search needs
 
 returns-4 : tie.Need-returns-4
-unfolding wrongFigures
+unfolding wrongAmounts
 returns-4 c =
     let most = c .before .before .before in
     let third = most .before in
@@ -45,7 +45,7 @@ is-above-requires-2 : tie.Need-is-above-requires-2
 is-above-requires-2 c κs = search needs
 
 returns-5 : tie.Need-returns-5
-unfolding wrongFigures
+unfolding wrongAmounts
 returns-5 c =
     let existing = c .before .before in
     let most = existing .before .before .before in
@@ -60,8 +60,8 @@ returns-5 c =
     )
     (above-known mostPence _ (most .of-pounds .ensures) (c .is-above2 .ensures))
 
-pub wrong-figures-spec : {M : Type 1} → statement M
-wrong-figures-spec =
+pub wrong-amounts-spec : {M : Type 1} → statement M
+wrong-amounts-spec =
     tie.close
     (tie.spec
     returns
