@@ -1,8 +1,8 @@
 /*
- * Additional Pension of the HSC Pension Scheme 2015: quoting an election, settling a contract and paying off its rest; and the
- * limit on buying out the reduction of an early pension.
+ * Additional Pension of the HSC Pension Scheme 2015: quoting an election, settling a contract and paying off its rest; and, by
+ * the guidance of the NHS Pension Scheme 2015, the limit on buying out the reduction of an early pension.
  *
- * Link with libhost.a (x86-64). The four functions are proved to keep the scheme's rules for every number they are given. They
+ * Link with libhost.a (x86-64). The four functions are proved to keep their rules for every number that they are given. They
  * allocate nothing, keep nothing between calls and end for every input; calls from several threads do not disturb each other.
  *
  * What a caller owes. Of the numbers, nothing: every number has an answer, and what the scheme does not allow is refused. Of
@@ -172,14 +172,14 @@ uint32_t ap_pay_off(uint32_t age, uint32_t pnpa_years, uint32_t pnpa_months, uin
  *   limit_pence             L, the overall limit on extra pension, pence a year: up to 1,000,000 pounds
  *   out, out_len            where the result goes
  *
- * The candidates are the higher of 65 and npa - 3, then one and two years later. B of a candidate is the greatest value, in
+ * The first candidate is npa - 3, but at least 65; the other two follow a year apart. B of a candidate is the greatest value, in
  * pension a year, that a buy-out up to it could come to: the years to it, times pay, times 1.015 to the power of those years,
- * times 1 less its factor, divided by 54. The power is kept in billionths, rounded each year; B is rounded once, and lies
- * within 2 pence of its exact value.
+ * times 1 less its factor, divided by 54. The power is a number of billionths, rounded each year; B is rounded to the penny at
+ * the end, and is at most 2 pence off its exact value.
  *
- * Where A is 0, the first candidate is taken, whatever L is. Otherwise the first one below npa is taken whose B is below C, the
- * greater of B - A and L - A, which may be below zero; where B and C are equal, the next is tried. There is no scope where the
- * next candidate is at npa, or where all three have failed.
+ * Where A is 0, the first candidate is taken, whatever L is. Otherwise the first one below npa is taken whose B is below C, that
+ * is, B - A or L - A, whichever is greater, even if negative; where B and C are equal, the next is tried. There is no scope where
+ * the next candidate is at npa, or where all three have failed.
  *
  * All three factors are looked at, also where a candidate is not tried. For a candidate at or past npa (the second and third of
  * 66, the third of 67) any number up to 1,000 does.

@@ -270,15 +270,15 @@ pub const DOCUMENT_003: [u64; 27] = [
 
 // The reduction limit by request 4 of document 02: the search at its edges, exact halves of B, the greatest figures.
 pub const SEARCHES: [u64; 216] = [
-    REDUCTION_LIMIT, 67, 50,  30000,  896,  946, 1000,         0,         0, // nothing held: the limit is not looked at
+    REDUCTION_LIMIT, 67, 50,  30000,  896,  946, 1000,         0,         0, // no existing pension: the limit decides nothing
     REDUCTION_LIMIT, 67, 50,  30000,  896,  946, 1000,         0, 100000000,
-    REDUCTION_LIMIT, 67, 50,  30000,  896,  946, 1000,         1,    108354, // a penny held, B = C: the next
+    REDUCTION_LIMIT, 67, 50,  30000,  896,  946, 1000,         1,    108354, // a penny of existing pension, B = C: the next
     REDUCTION_LIMIT, 67, 50,  30000,  896,  946, 1000,         1,    108355, // C a penny more
     REDUCTION_LIMIT, 67, 50,  30000,  896,  946, 1000,    400000,    508353, // B = C: the next
     REDUCTION_LIMIT, 67, 50,  30000,  896,  946, 1000,    400000,    508354, // C a penny more
     REDUCTION_LIMIT, 67, 50,  30000,  896,  946, 1000,    400000,    460911, // B = C at the second, and the third is the pension age: no scope
     REDUCTION_LIMIT, 67, 50,  30000,  896,  946, 1000,    400000,    460912, // C a penny more at the second
-    REDUCTION_LIMIT, 67, 50,  30000,  896,  946, 1000,    400000,    399999, // the limit is below what is held: no scope
+    REDUCTION_LIMIT, 67, 50,  30000,  896,  946, 1000,    400000,    399999, // the limit is below existing pension: no scope
     REDUCTION_LIMIT, 67, 50,  30000, 1000, 1000, 1000,    400000,    400000, // B and C are 0: no scope
     REDUCTION_LIMIT, 67, 50,  30000, 1000, 1000, 1000,    400000,    400001, // B is 0, C a penny
     REDUCTION_LIMIT, 68, 35,  70000, 1000, 1000, 1000,         1,         0, // C is below zero three times: no scope
@@ -318,6 +318,6 @@ pub const RANGES: [u64; 198] = [
     REDUCTION_LIMIT, 67, 50,  30000,  896,  946, 1000, 100000001,    692400, // 18: existing pension
     REDUCTION_LIMIT, 67, 50,  30000,  896,  946, 1000,    400000, 100000000, // the highest limit
     REDUCTION_LIMIT, 67, 50,  30000,  896,  946, 1000,    400000, 100000001, // 18: limit
-    REDUCTION_LIMIT, 67, 50,  30000,  896,  946, 1000,         0, 100000001, // 18, though nothing is held
+    REDUCTION_LIMIT, 67, 50,  30000,  896,  946, 1000,         0, 100000001, // 18, though there is no existing pension
     REDUCTION_LIMIT, 4294967295, 4294967295, 4294967295, 4294967295, 4294967295, 4294967295, 18446744073709551615, 18446744073709551615, // 18
 ];

@@ -17,17 +17,17 @@ use Rattle.reduction.specs.Told.{Passing, EarliestPassing, NonePassing}
 use Rattle.reduction.proofs.Candidates.{searchFrom, earliestAge, candidate-least, candidates-rise, is-below, is-not-below}
 
 -- the test as a statement, both ways
-takes-room : (b held limit : ℕ) → takes b held limit ≡ true → (held ≡ 0) ⊎ (pos b <ℤ headroom b held limit)
+takes-room : (b existing limit : ℕ) → takes b existing limit ≡ true → (existing ≡ 0) ⊎ (pos b <ℤ headroom b existing limit)
 unfolding takes
-takes-room b held limit e =
-    by-test (eqb held 0)
-    (λ z. inl (eqb-true held 0 z))
+takes-room b existing limit e =
+    by-test (eqb existing 0)
+    (λ z. inl (eqb-true existing 0 z))
     (λ z. inr (record { lt = subst T (sym (rw z at e)) tt }))
 
-room-takes : (b held limit : ℕ) → (held ≡ 0) ⊎ (pos b <ℤ headroom b held limit) → takes b held limit ≡ true
+room-takes : (b existing limit : ℕ) → (existing ≡ 0) ⊎ (pos b <ℤ headroom b existing limit) → takes b existing limit ≡ true
 unfolding takes
-room-takes b held limit (inl z) = rw (eq-eqb held 0 z)
-room-takes b held limit (inr h) = by-test (eqb held 0) (λ z. rw z) (λ z. rw z (holds _ (h .lt)))
+room-takes b existing limit (inl z) = rw (eq-eqb existing 0 z)
+room-takes b existing limit (inr h) = by-test (eqb existing 0) (λ z. rw z) (λ z. rw z (holds _ (h .lt)))
   where
     holds : (t : Bool) → T t → t ≡ true
     holds true p = refl

@@ -37,22 +37,22 @@ both-less x z y =
     rw (e, d) (same-ltb (x - y) (z - y) x z (λ p. omega arith) (λ p. omega arith))))
 
 -- C cut off is the greater of both differences cut off
-pub cut-headroom : (b held limit : ℕ) → cutOff (headroom b held limit) ≡ max (b - held) (limit - held)
+pub cut-headroom : (b existing limit : ℕ) → cutOff (headroom b existing limit) ≡ max (b - existing) (limit - existing)
 unfolding headroom
-cut-headroom b held limit =
-    by-test (ltZ (subℕ b held) (subℕ limit held))
-    (λ e. let h = ltb-true b limit (sym (both-less b limit held) ∙ e) in rw e (cut-difference limit held ∙ omega arith))
-    (λ e. let h = ltb-false b limit (sym (both-less b limit held) ∙ e) in rw e (cut-difference b held ∙ omega arith))
+cut-headroom b existing limit =
+    by-test (ltZ (subℕ b existing) (subℕ limit existing))
+    (λ e. let h = ltb-true b limit (sym (both-less b limit existing) ∙ e) in rw e (cut-difference limit existing ∙ omega arith))
+    (λ e. let h = ltb-false b limit (sym (both-less b limit existing) ∙ e) in rw e (cut-difference b existing ∙ omega arith))
 
--- with nothing existing the candidate is taken, and else by L − A cut off: B − A is below B
-pub takes-none : (b held limit : ℕ) → ltb 0 held ≡ false → takes b held limit ≡ true
+-- without existing pension the candidate is taken, and else by L − A cut off: B − A is below B
+pub takes-none : (b existing limit : ℕ) → ltb 0 existing ≡ false → takes b existing limit ≡ true
 unfolding takes
-takes-none b held limit e = rw (eq-eqb held 0 (omega (arith, ltb-false 0 held e)))
+takes-none b existing limit e = rw (eq-eqb existing 0 (omega (arith, ltb-false 0 existing e)))
 
-pub takes-some : (b held limit : ℕ) → ltb 0 held ≡ true → takes b held limit ≡ ltb b (limit - held)
+pub takes-some : (b existing limit : ℕ) → ltb 0 existing ≡ true → takes b existing limit ≡ ltb b (limit - existing)
 unfolding takes
-takes-some b held limit e =
-    let some = ltb-true 0 held e in
-    rw (ne-eqb held 0 (λ z. omega arith))
-    (below-cut b (headroom b held limit) ∙ ap (ltb b) (cut-headroom b held limit)
-    ∙ same-ltb b (max (b - held) (limit - held)) b (limit - held) (λ p. omega arith) (λ p. omega arith))
+takes-some b existing limit e =
+    let some = ltb-true 0 existing e in
+    rw (ne-eqb existing 0 (λ z. omega arith))
+    (below-cut b (headroom b existing limit) ∙ ap (ltb b) (cut-headroom b existing limit)
+    ∙ same-ltb b (max (b - existing) (limit - existing)) b (limit - existing) (λ p. omega arith) (λ p. omega arith))

@@ -19,11 +19,11 @@ pub record ReductionNumbers : Type 0 where
   pub second : ℕ
   pub third : ℕ
 
--- where the search gives an age: B of candidate k if it is below NPA and, where one is taken, not after it; else 0
+-- by the age that the search gives, 0 for none: B of candidate k if it is below NPA and not after the one taken; else 0
 unfoldable pub shownOf : Application → (age k : ℕ) → ℕ
 shownOf a age k = pick (belowNpa a k && (eqb age 0 || leb (candidateOf a k) age)) (potentialAt a k) 0
 
--- what is answered then
+-- what is answered by that age
 abbrev pub foundReduction : Application → (age : ℕ) → ReductionNumbers
 foundReduction a age =
     record { refusal = 0; age = age; first = shownOf a age 0; second = shownOf a age 1; third = shownOf a age 2 }

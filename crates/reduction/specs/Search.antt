@@ -9,7 +9,7 @@ use Rattle.common.specs.Choice.{pick}
 use Rattle.reduction.specs.declared.Application.{Application}
 use Rattle.reduction.specs.Potential.{potentialOf}
 
--- candidate 0 is the higher of 65 and NPA − 3; 1 and 2 are one and two years later
+-- candidate 0 is NPA − 3, but at least 65; candidates 1 and 2 follow a year apart
 unfoldable pub candidateOf : Application → ℕ → ℕ
 candidateOf a k = max 65 (a .npa - 3) + k
 
@@ -35,7 +35,7 @@ greaterOf x y = pick (ltZ x y) y x
 unfoldable pub headroom : (b existing limit : ℕ) → ℤ
 headroom b existing limit = greaterOf (subℕ b existing) (subℕ limit existing)
 
--- B < C; with A = 0 this test is not made
+-- B < C; where A is 0 a candidate is taken untested
 unfoldable pub takes : (b existing limit : ℕ) → Bool
 takes b existing limit = eqb existing 0 || ltZ (pos b) (headroom b existing limit)
 

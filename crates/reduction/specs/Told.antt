@@ -56,9 +56,9 @@ pub record AcceptedTold (a : Application) (n : ReductionNumbers) : Type 0 where
   -- 0 is given just where none does
   pub no-scope : n .refusal ≡ 0 → n .age ≡ 0 → NonePassing a
   pub none-passes : n .refusal ≡ 0 → NonePassing a → n .age ≡ 0
-  -- with A = 0 the first candidate is taken, whatever L is
+  -- where A is 0 the first candidate is taken, whatever L is
   pub untested : n .refusal ≡ 0 → a .existing .0 ≡ 0 → n .age ≡ candidateOf a 0
-  -- the B of the candidates below NPA up to the one taken; the others are 0
+  -- B is given as far as the search went below NPA, else 0
   pub shown : n .refusal ≡ 0 → (k : ℕ) → Shown a (n .age) k → givenFor n k ≡ potentialAt a k
   pub others : n .refusal ≡ 0 → (k : ℕ) → k < 3 → (Shown a (n .age) k → ⊥) → givenFor n k ≡ 0
   -- each lies within 2 pence of its exact value

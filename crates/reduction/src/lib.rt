@@ -20,7 +20,7 @@ pub struct Application {
     pub age: u32,
     // whole-time pay, in whole pounds a year
     pub pay: u32,
-    // the early-retirement factor (ERF) of each candidate: what it leaves of a pension, in thousandths
+    // the early-retirement factor (ERF) of each candidate: what retiring at that age leaves of a pension, in thousandths
     pub erf_first: u32,
     pub erf_second: u32,
     pub erf_third: u32,
@@ -74,8 +74,8 @@ fn power_to(years: u32) -> u64
     power
 }
 
-// B of a candidate, over 54 × 1,000 × 10^9. The hundred that makes pounds pence is cancelled, which leaves 540 × 10^9: with it the product
-// would not fit 64 bits.
+// B of a candidate, over 54 × 1,000 × 10^9. The hundred that makes pounds pence is cancelled, which leaves 540 × 10^9: with the
+// hundred the product would not fit 64 bits.
 fn potential(years: u32, power: u64, pay: u32, erf: u32) -> PensionPence
     requires { ⌜ (years ≤ 45) × ((power ≡ powerOf years) × ((pay ≤ 200000) × (erf ≤ 1000))) ⌝ }
     ensures { λ r. ⌜ r ≡ pension (potentialOf years pay erf) ⌝ }
@@ -161,7 +161,7 @@ fn factor(a: Application, k: u32) -> u32
     }
 }
 
-// Whether a candidate is taken: untested with nothing existing, else if B < C. Of the two in C only L − A can be above B; and as B is not
+// Whether a candidate is taken: untested without existing pension, else if B < C. Of the two in C only L − A can be above B; and as B is not
 // below zero, L − A may be cut off at 0.
 fn takes(b: PensionPence, existing: PensionPence, limit: PensionPence) -> bool
     ensures { λ r. ⌜ r ≡ takes (b .0) (existing .0) (limit .0) ⌝ }

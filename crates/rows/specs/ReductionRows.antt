@@ -22,8 +22,8 @@ abbrev pub member : (npa age pay erf1 erf2 erf3 : ℕ) → Member
 member npa age pay erf1 erf2 erf3 = record { npa = npa; age = age; pay = pay; erf1 = erf1; erf2 = erf2; erf3 = erf3 }
 
 -- what a member is answered, with so much existing pension and under a limit
-abbrev pub answered : Member → (existing limit : ℕ) → ReductionNumbers
-answered m existing limit =
+abbrev pub numbersFor : Member → (existing limit : ℕ) → ReductionNumbers
+numbersFor m existing limit =
     reductionLimitOf (record {
       npa = m .npa;
       age = m .age;
@@ -38,7 +38,7 @@ answered m existing limit =
 -- the same as a list: refusal, age, three B
 abbrev pub limited : Member → (existing limit : ℕ) → List ℕ
 limited m existing limit =
-    let n = answered m existing limit in
+    let n = numbersFor m existing limit in
     n .refusal ∷ n .age ∷ n .first ∷ n .second ∷ n .third ∷ []
 
 -- document 003's members of the examples B and C. B has one factor there; its second candidate has here that of C for a year before the
@@ -49,14 +49,14 @@ exampleB = member 67 50 30000 896 946 1000
 abbrev pub exampleC : Member
 exampleC = member 68 35 70000 850 896 946
 
--- the two examples: £4,000 and £2,000 are held, and the limit is £6,924
+-- the two examples: existing pension of £4,000 and £2,000, and a limit of £6,924
 unfoldable pub exampleRows : List Row
 exampleRows =
     (limited exampleB 400000 692400 is (0 ∷ 65 ∷ 108353 ∷ 0 ∷ 0 ∷ []))
     ∷ (limited exampleC 200000 692400 is (0 ∷ 67 ∷ 911797 ∷ 663051 ∷ 360713 ∷ []))
     ∷ []
 
--- the member of example B with a pension age of 66
+-- the member of example B with a pension age of 66, and a factor of 1,000 for the second candidate, which is that age
 abbrev pub until66 : Member
 until66 = member 66 50 30000 896 1000 1000
 
@@ -64,8 +64,8 @@ until66 = member 66 50 30000 896 1000 1000
 abbrev pub unreduced : Member
 unreduced = member 68 35 70000 1000 1000 1000
 
--- nothing held, with a limit of 0 and one above B; B = C, where the next candidate is tried, and a limit that is a penny more; a limit
--- below what is held; the second candidate at the pension age, at B = C and with a penny more; all three fail; C is below zero
+-- no existing pension, with a limit of 0 and one above B; B = C, where the next candidate is tried, and a limit that is a penny more; a limit
+-- below existing pension; the second candidate at the pension age, at B = C and with a penny more; all three fail; C is below zero
 unfoldable pub searchRows : List Row
 searchRows =
     (limited exampleB 0 0 is (0 ∷ 65 ∷ 108353 ∷ 0 ∷ 0 ∷ []))
@@ -105,9 +105,9 @@ potentialRows =
     ∷ (only (45 * 200000 * powerOf 45 * (1000 - 0)) is only 17587917135000000000)
     ∷ []
 
--- the refusal of the member of example B, with one number changed
+-- the refusal that a member gets
 abbrev pub refusedFor : Member → (existing limit : ℕ) → ℕ
-refusedFor m existing limit = answered m existing limit .refusal
+refusedFor m existing limit = numbersFor m existing limit .refusal
 
 -- the numbers on either side of each bound, and those within: pension age, age, pay, each factor, existing pension, limit
 unfoldable pub outOfRangeRows : List Row
@@ -118,7 +118,7 @@ outOfRangeRows =
     ∷ (map (λ (erf : ℕ). refusedFor (member 67 50 30000 erf 946 1000) 400000 692400) (1000 ∷ 1001 ∷ []) is (0 ∷ 18 ∷ []))
     ∷ (map (λ (erf : ℕ). refusedFor (member 67 50 30000 896 erf 1000) 400000 692400) (1000 ∷ 1001 ∷ []) is (0 ∷ 18 ∷ []))
     ∷ (map (λ (erf : ℕ). refusedFor (member 67 50 30000 896 946 erf) 0 0) (1000 ∷ 1001 ∷ []) is (0 ∷ 18 ∷ []))
-    ∷ (map (λ (held : ℕ). refusedFor exampleB held 692400) (100000000 ∷ 100000001 ∷ []) is (0 ∷ 18 ∷ []))
+    ∷ (map (λ (existing : ℕ). refusedFor exampleB existing 692400) (100000000 ∷ 100000001 ∷ []) is (0 ∷ 18 ∷ []))
     ∷ (map (λ (limit : ℕ). refusedFor exampleB 0 limit) (100000000 ∷ 100000001 ∷ []) is (0 ∷ 18 ∷ []))
     ∷ (limited (member 65 50 30000 896 946 1000) 400000 692400 is (18 ∷ 0 ∷ 0 ∷ 0 ∷ 0 ∷ []))
     ∷ []

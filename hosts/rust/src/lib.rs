@@ -1,7 +1,7 @@
-//! Additional Pension of the HSC Pension Scheme 2015: quoting an election, settling a contract and paying off its rest; and the
-//! limit on buying out the reduction of an early pension.
+//! Additional Pension of the HSC Pension Scheme 2015: quoting an election, settling a contract and paying off its rest; and, by the
+//! guidance of the NHS Pension Scheme 2015, the limit on buying out the reduction of an early pension.
 //!
-//! The figures come from a static library whose four functions are proved to keep the scheme's rules for every input. This
+//! The figures come from a static library whose four functions are proved to keep their rules for every input. This
 //! crate only puts Rust's types around them: it checks nothing, rounds nothing and refuses nothing of its own.
 //!
 //! The library rounds to the nearest penny. An exact half goes to the even penny in a contribution, a whole-year credit, the value
@@ -90,8 +90,8 @@ pub struct PayOff {
     pub cost: Contribution,
 }
 
-/// How early a reduction may be bought out to. The candidates are the higher of 65 and the pension age less 3 years, then one and
-/// two years later.
+/// How early a reduction may be bought out to. The first candidate is the pension age less 3 years, but at least 65; the other two
+/// follow a year apart.
 #[derive(Clone, Copy, Debug, PartialEq, Eq)]
 pub struct ReductionLimit {
     /// The earliest reduced retirement age that the member may choose; nothing where there is no scope.

@@ -1,4 +1,4 @@
-//! The rules of Additional Pension, written a second time in plain Rust.
+//! The rules of Additional Pension and of the reduction limit, written a second time in plain Rust.
 //!
 //! This is what the proved part is compared with, so it shares nothing with it: not the code, not the tables, not the way of
 //! working. Refusals and statuses are the paper's numbers, money is in pence, and a refusal leaves every other field 0.

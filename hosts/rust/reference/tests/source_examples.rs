@@ -126,7 +126,7 @@ fn document_001_example_5_at_the_rates_of_document_000() {
     assert_eq!(paid_off, PayOff { remaining: 1_190_83, increased: 1_203_93, cost: 18_299_74, ..PayOff::default() });
 }
 
-/// Examples A to C of document 003 have the limit of 2019-20.
+/// Examples B and C of document 003 have the limit of 2019-20; A has none.
 const APPLICATION: Application =
     Application { npa: 67, age: 50, pay: 30_000, factors: [896, 946, 1_000], existing: 4_000_00, limit: 6_924_00 };
 
