@@ -165,11 +165,13 @@ uint32_t ap_pay_off(uint32_t age, uint32_t pnpa_years, uint32_t pnpa_months, uin
  * Finds the earliest reduced retirement age that a member may choose when buying out the reduction of an early pension.
  *
  *   npa                     normal pension age, whole years: 66 to 70
- *   age                     whole years: 24 to 64
- *   pay                     whole pounds a year: 1 to 200,000
- *   erf_first to erf_third  early-retirement factor for the years from each candidate to npa, in thousandths: 0 to 1,000
- *   existing_pence          A, the Additional Pension that the member has, pence a year: up to 1,000,000 pounds
- *   limit_pence             L, the overall limit on extra pension, pence a year: up to 1,000,000 pounds
+ *   age                     last birthday, whole years: 24 to 64
+ *   pay                     whole-time pay, whole pounds a year: 1 to 200,000
+ *   erf_first to erf_third  early-retirement factor of each candidate: what a pension keeps that is taken then and not at npa, in
+ *                           thousandths: 0 to 1,000 (896 keeps 89.6%, 1,000 is no reduction)
+ *   existing_pence          A, the Additional Pension that the member has, with increases so far and with contracts that are
+ *                           still being paid as if completed, pence a year: up to 1,000,000 pounds
+ *   limit_pence             L, the limit on Additional Pension and buy-outs together, pence a year: up to 1,000,000 pounds
  *   out, out_len            where the result goes
  *
  * The first candidate is npa - 3, but at least 65; the other two follow a year apart. B of a candidate is the greatest value, in

@@ -273,7 +273,7 @@ int main(void)
     const struct application no_existing = {"no existing pension", 68, 35, 70000, 850, 896, 946, 0, 692400};
     const struct application used_up = {"limit just used up", 68, 35, 70000, 850, 896, 946, 200000, 560713};
     const struct application one_age = {"one age below the pension age", 66, 35, 70000, 896, 1000, 1000, 200000, 692400};
-    const struct application no_factor = {"a factor above 1", 66, 35, 70000, 896, 1000, 1001, 200000, 692400};
+    const struct application factor_above_1 = {"a factor above 1", 66, 35, 70000, 896, 1000, 1001, 200000, 692400};
     uint32_t last_number = 41;
 
     quote(&nine_years, 0, &last_number);
@@ -311,8 +311,8 @@ int main(void)
     reduction_limit(&no_existing);
     reduction_limit(&used_up);
     reduction_limit(&one_age);
-    reduction_limit(&no_factor);
+    reduction_limit(&factor_above_1);
 
-    short_buffers(&five_years, &no_factor);
+    short_buffers(&five_years, &factor_above_1);
     return EXIT_SUCCESS;
 }

@@ -140,7 +140,7 @@ fn out_of_range(a: Application) -> bool
     wrong_amounts(a)
 }
 
-// The higher of 65 and NPA − 3.
+// NPA − 3, but at least 65.
 fn first_candidate(npa: u32) -> u32
     ensures { λ r. ⌜ r ≡ max 65 (npa - 3) ⌝ }
 {

@@ -8,16 +8,18 @@ use crate::raw::ApplicationNumbers;
 pub struct Application {
     /// Normal pension age in whole years, 66 to 70.
     pub npa: u32,
-    /// Age in whole years, 24 to 64.
+    /// Age at the last birthday in whole years, 24 to 64.
     pub age: u32,
-    /// Whole pounds a year, 1 to 200,000.
+    /// Whole-time pay in whole pounds a year, 1 to 200,000.
     pub pay: u32,
-    /// The early-retirement factor of each candidate in thousandths, 0 to 1,000. All three are looked at; for a candidate that is
-    /// not below the pension age any of these numbers does.
+    /// The early-retirement factor of each candidate: what a pension keeps that is taken then and not at the pension age, in
+    /// thousandths, 0 to 1,000 (896 keeps 89.6%, 1,000 is no reduction). All three are looked at; for a candidate that is not
+    /// below the pension age any of these numbers does.
     pub factors: [u32; 3],
-    /// The Additional Pension that the member has, £1,000,000 at most.
+    /// The Additional Pension that the member has, with increases so far and with contracts that are still being paid as if
+    /// completed, £1,000,000 at most.
     pub existing: Pension,
-    /// The overall limit on extra pension, £1,000,000 at most. Without existing pension it decides nothing.
+    /// The limit on Additional Pension and buy-outs together, £1,000,000 at most. Without existing pension it decides nothing.
     pub limit: Pension,
 }
 

@@ -137,6 +137,7 @@ fn refused_applications() {
         Application { pay: 0, ..sound },
         Application { pay: 200_001, ..sound },
         Application { factors: [1_001, 896, 946], ..sound },
+        Application { factors: [850, 1_001, 946], ..sound },
         // Neither of the last two candidates is reached.
         Application { npa: 66, factors: [850, 896, 1_001], existing: Pension(0), ..sound },
         Application { existing: above, ..sound },
