@@ -28,7 +28,7 @@ const PAY_OFF_BYTES: usize = 40;
 const REDUCTION_LIMIT_BYTES: usize = 40;
 
 // The refusal of an application that is out of range.
-const OUT_OF_RANGE: u64 = 18;
+const REFUSED_APPLICATION: u64 = 18;
 
 // The value of a call whose buffer has fewer bytes.
 const SHORT_BUFFER: u32 = 14;
@@ -66,7 +66,7 @@ fn reduction_numbers(answer: ReductionLimit) -> [u64; 5]
     ensures { λ r. ⌜ r ≡ reductionNumbers answer .refusal ∷ reductionNumbers answer .age ∷ reductionNumbers answer .first ∷ reductionNumbers answer .second ∷ reductionNumbers answer .third ∷ [] ⌝ }
 {
     match answer {
-        ReductionLimit::Refused => [OUT_OF_RANGE, 0, 0, 0, 0],
+        ReductionLimit::Refused => [REFUSED_APPLICATION, 0, 0, 0, 0],
         ReductionLimit::NoScope(p) => [0, 0, p.first.0, p.second.0, p.third.0],
         ReductionLimit::Found { age, potentials } => [
             0,

@@ -1,7 +1,7 @@
 -- How large the numbers of a reduction limit can be.
 -- Assumes nothing.
 use mathlib.Core.Bool.{_||_}
-use Prim.Native.Nat.{ℕ, _≤_}
+use Prim.Native.Nat.{ℕ, _≤_, _<_}
 use native.Mathlib.Omega.{arith}
 use lib.Dec.{leb, eqb}
 use borrow.Author.Tests.{eqb-true, eqb-false}
@@ -13,7 +13,7 @@ use Rattle.reduction.specs.Search.{candidateOf, belowNpa}
 use Rattle.reduction.specs.Answer.{shownOf, reductionBy, reductionLimitOf}
 use Rattle.reduction.specs.Bounds.{mostPotential, ReductionBounds}
 use Rattle.reduction.proofs.Range.{in-range}
-use Rattle.reduction.proofs.Candidates.{earliestAge, is-below, most-at}
+use Rattle.reduction.proofs.Candidates.{earliestAge, most-at}
 use Rattle.reduction.proofs.Earliest.{given-earliest}
 
 module _ (a : Application) where
@@ -25,13 +25,13 @@ module _ (a : Application) where
         (λ e. omega (arith, eqb-true (earliestAge a) 0 e))
         (λ e. let f = given-earliest a (eqb-false (earliestAge a) 0 e) in omega (arith, f .is, f .passes .below, in-it .npa-high))
 
-    shown-most : (age k : ℕ) → shownOf a age k ≤ mostPotential
+    shown-most : (age k : ℕ) → k < 3 → shownOf a age k ≤ mostPotential
     unfolding shownOf
-    shown-most age k =
+    shown-most age k among =
         by-test (belowNpa a k)
         (λ b. rw b
         (either (λ (n : ℕ). n ≤ mostPotential) (eqb age 0 || leb (candidateOf a k) age) {y = 0}
-        (most-at a in-it k (is-below a k b)) (omega arith)))
+        (most-at a in-it k among) (omega arith)))
         (λ b. rw b (omega arith))
 
   pub reduction-bounds : ReductionBounds (reductionLimitOf a)
@@ -53,7 +53,7 @@ module _ (a : Application) where
       record {
         refusal-most = omega arith;
         age-most = age-most in-it;
-        first-most = shown-most in-it _ 0;
-        second-most = shown-most in-it _ 1;
-        third-most = shown-most in-it _ 2;
+        first-most = shown-most in-it _ 0 (omega arith);
+        second-most = shown-most in-it _ 1 (omega arith);
+        third-most = shown-most in-it _ 2 (omega arith);
       })

@@ -67,12 +67,12 @@ module _ (a : Application) where
     unfolding candidateOf
     first-below = omega (arith, in-it .npa-low)
 
-    -- every candidate is a later age, and one below NPA at most 45 years away
+    -- every candidate is a later age, and each of the three at most 45 years away
     pub age-before : (k : ℕ) → a .age ≤ candidateOf a k
     age-before k = omega (arith, in-it .age-high, candidate-least k)
 
-    pub years-few : (k : ℕ) → candidateOf a k < a .npa → yearsTo a k ≤ 45
-    unfolding yearsTo
+    pub years-few : (k : ℕ) → k < 3 → yearsTo a k ≤ 45
+    unfolding yearsTo candidateOf
     years-few k h = omega (arith, in-it .npa-high, in-it .age-low)
 
     pub factor-most : (k : ℕ) → factorOf a k ≤ 1000
@@ -81,12 +81,12 @@ module _ (a : Application) where
     factor-most (suc zero) = in-it .second-high
     factor-most (suc (suc k)) = in-it .third-high
 
-    -- B of a candidate below NPA
-    module _ (k : ℕ) (below : candidateOf a k < a .npa) where
+    -- B of one of the three
+    module _ (k : ℕ) (among : k < 3) where
       pub close-at : NearPotential 1 (yearsTo a k) (a .pay) (factorOf a k) (potentialAt a k)
       unfolding potentialAt
-      close-at = potential-close (yearsTo a k) (a .pay) (factorOf a k) (years-few k below) (in-it .pay-high)
+      close-at = potential-close (yearsTo a k) (a .pay) (factorOf a k) (years-few k among) (in-it .pay-high)
 
       pub most-at : potentialAt a k ≤ mostPotential
       unfolding potentialAt
-      most-at = potential-most (yearsTo a k) (a .pay) (factorOf a k) (years-few k below) (in-it .pay-high)
+      most-at = potential-most (yearsTo a k) (a .pay) (factorOf a k) (years-few k among) (in-it .pay-high)

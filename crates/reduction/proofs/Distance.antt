@@ -70,7 +70,7 @@ module _ (years pay erf : ℕ) (few : years ≤ 45) (paid : pay ≤ 200000) wher
       let b = halfUp n 54000000000000 in
       let p = power-close years few in
       record {
-        real = omega (arith, one-le-pow years 1000 (omega arith));
+        positive = omega (arith, one-le-pow years 1000 (omega arith));
         above = omega (
           arith,
           near-above q (powerOf years) (powerDen years) (powerNum years) b weight-most (p .above)

@@ -42,7 +42,7 @@ module _ (n : ℕ) (few : n ≤ 45) where
   power-most = rules .0
 
   pub power-close : NearPower 2 n (powerOf n)
-  power-close = record { real = one-le-pow n 1000 (omega arith); above = rules .1 .0; below = rules .1 .1 .0 }
+  power-close = record { positive = one-le-pow n 1000 (omega arith); above = rules .1 .0; below = rules .1 .1 .0 }
 
 pub power-told : PowerTold
 power-told =

@@ -8,7 +8,7 @@ use Rattle.reduction.specs.Near.{Near}
 pub near-wider : {s t r num den : ℕ} → s ≤ t → Near s r num den → Near t r num den
 near-wider {s} {t} {r} {num} {den} h n =
     record {
-      real = n .real;
+      positive = n .positive;
       above = omega (arith, n .above, mul-le-mul-right den h);
       below = omega (arith, n .below, mul-le-mul-right den h);
     }

@@ -53,7 +53,7 @@ module _ (a : Application) (in-it : InRange a) {age : ℕ} (first : age ≡ max 
 
   pub first-few : age - a .age ≤ 45
   unfolding yearsTo
-  first-few = omega (arith, candidate-first a first, years-few a in-it 0 (first-below a in-it))
+  first-few = omega (arith, candidate-first a first, years-few a in-it 0 (omega arith))
 
   pub begun : {power : ℕ} {p : Potentials} → power ≡ powerOf (age - a .age) → p ≡ nothingNoted → Searching a 0 age power p
   unfolding triedOf yearsTo
@@ -113,16 +113,16 @@ module _ (a : Application) {k age power : ℕ} {p : Potentials} (s : Searching a
   pub some-age : true ≡ ltb 0 age
   some-age = sym (lt-ltb 0 age (omega (arith, s .is, candidate-least a k)))
 
+  pub years-most : k < 3 → age - a .age ≤ 45
+  years-most h = omega (arith, years-are, years-few a (s .in-it) k h)
+
+  pub power-fits : k < 3 → power * 1015 < 2 ^ 64
+  power-fits h = omega (arith, power-is, power-most (age - a .age) (years-most h))
+
   -- a candidate below NPA
   module _ (low : age < a .npa) where
     here-below : candidateOf a k < a .npa
     here-below = omega (arith, s .is)
-
-    pub years-most : age - a .age ≤ 45
-    years-most = omega (arith, years-are, years-few a (s .in-it) k here-below)
-
-    pub power-fits : power * 1015 < 2 ^ 64
-    power-fits = omega (arith, power-is, power-most (age - a .age) years-most)
 
     -- what the code works out for it
     module _ (h : k < 3) {b : PensionPence} {factor : ℕ} (its : factor ≡ factorOf a k) (is : b ≡ pension (potentialOf (age - a .age) (a .pay) factor)) where

@@ -100,11 +100,19 @@ module _ (a : Application) where
         earliest = λ z some. rw (age-is (fine z)) (given-earliest a (λ e. some (age-is (fine z) ∙ e)));
         no-scope = λ z none. none-given a (sym (age-is (fine z)) ∙ none);
         none-passes = λ z fails. age-is (fine z) ∙ given-none a fails;
-        untested = λ z none. age-is (fine z) ∙ untested (fine z) none;
+        untested = λ z none. (age-is (fine z) ∙ untested (fine z) none, given-shown (fine z) 0 (first-shown (fine z) none));
         shown = λ z k s. given-shown (fine z) k s;
         others = λ z k h hidden. given-is (fine z) k h ∙ hides (fine z) k h (λ s. hidden (rw (age-is (fine z)) s));
-        near = λ z k s. rw (given-shown (fine z) k s) (near-wider (omega arith) (close-at a (in-range a (fine z)) k (s .below)));
+        near = λ z k s. rw (given-shown (fine z) k s) (near-wider (omega arith) (close-at a (in-range a (fine z)) k (s .among)));
       }
     where
+      first-shown : (in-it : outOfRange a ≡ false) → a .existing .0 ≡ 0 → Shown a (answer .age) 0
+      first-shown in-it none =
+          record {
+            among = omega arith;
+            below = first-below a (in-range a in-it);
+            until = inr (omega (arith, age-is in-it, untested in-it none));
+          }
+
       given-shown : (in-it : outOfRange a ≡ false) (k : ℕ) → Shown a (answer .age) k → givenFor answer k ≡ potentialAt a k
       given-shown in-it k s = given-is in-it k (s .among) ∙ shows in-it k (rw (age-is in-it) at s)

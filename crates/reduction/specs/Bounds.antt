@@ -1,4 +1,4 @@
--- What bounds the numbers of a reduction limit.
+-- Request 4 of document 02: what bounds the numbers of a reduction limit.
 -- Assumes nothing.
 use Prim.Native.Nat.{ℕ, _≤_}
 use Rattle.reduction.specs.Answer.{ReductionNumbers}

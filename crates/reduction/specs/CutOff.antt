@@ -1,4 +1,4 @@
--- C cut off at 0. By a law the answers are the same: proofs/CutOff.
+-- Request 4 of document 02: C cut off at 0. By a law the answers are the same: proofs/CutOff.
 -- Assumes nothing.
 use mathlib.Core.Bool.{Bool, _||_}
 use Prim.Native.Nat.{ℕ}

@@ -1,4 +1,4 @@
--- Request 4 of document 02: what an application may hold, and what is refused with 18.
+-- Request 4 of document 02: what an application may hold, and what is refused with 18, in two halves as the code tests it.
 -- Assumes nothing.
 use mathlib.Core.Bool.{Bool, _||_}
 use Prim.Native.Nat.{ℕ, _≤_}

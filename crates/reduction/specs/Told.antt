@@ -56,8 +56,8 @@ pub record AcceptedTold (a : Application) (n : ReductionNumbers) : Type 0 where
   -- 0 is given just where none does
   pub no-scope : n .refusal ≡ 0 → n .age ≡ 0 → NonePassing a
   pub none-passes : n .refusal ≡ 0 → NonePassing a → n .age ≡ 0
-  -- where A is 0 the first candidate is taken, whatever L is
-  pub untested : n .refusal ≡ 0 → a .existing .0 ≡ 0 → n .age ≡ candidateOf a 0
+  -- where A is 0 the first candidate is taken, whatever L is, and its B is given
+  pub untested : n .refusal ≡ 0 → a .existing .0 ≡ 0 → (n .age ≡ candidateOf a 0) × (n .first ≡ potentialAt a 0)
   -- B is given as far as the search went below NPA, else 0
   pub shown : n .refusal ≡ 0 → (k : ℕ) → Shown a (n .age) k → givenFor n k ≡ potentialAt a k
   pub others : n .refusal ≡ 0 → (k : ℕ) → k < 3 → (Shown a (n .age) k → ⊥) → givenFor n k ≡ 0

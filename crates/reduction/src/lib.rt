@@ -74,8 +74,8 @@ fn power_to(years: u32) -> u64
     power
 }
 
-// B of a candidate, over 54 × 1,000 × 10^9. The hundred that makes pounds pence is cancelled, which leaves 540 × 10^9: with the
-// hundred the product would not fit 64 bits.
+// B of a candidate: a product over 54 × 1,000 × 10^9. The hundred that makes pounds pence is cancelled on both sides, which leaves
+// 540 × 10^9: with it the product would not fit 64 bits.
 fn potential(years: u32, power: u64, pay: u32, erf: u32) -> PensionPence
     requires { ⌜ (years ≤ 45) × ((power ≡ powerOf years) × ((pay ≤ 200000) × (erf ≤ 1000))) ⌝ }
     ensures { λ r. ⌜ r ≡ pension (potentialOf years pay erf) ⌝ }

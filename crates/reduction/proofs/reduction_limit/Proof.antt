@@ -94,7 +94,7 @@ potential-requires : tie.Need-potential-requires Inv-loop μ-loop
 potential-requires c κs =
     let b = c .before .before in
     let s = b .before .before .before .loop .inv in (
-      years-most _ s (b .if2 .left),
+      years-most _ s (omega (arith, b .before .before .loop-test .taken)),
       (power-is _ s, (s .in-it .pay-high, rw (c .factor .ensures) (factor-most _ (s .in-it) _))),
     )
 
@@ -123,7 +123,7 @@ add-candidate c =
 grown-requires : tie.Need-grown-requires Inv-loop μ-loop
 grown-requires c κs =
     let b = c .before .before .before .before .before .before in
-    power-fits _ (b .before .before .before .loop .inv) (b .if2 .left)
+    power-fits _ (b .before .before .before .loop .inv) (omega (arith, b .before .before .loop-test .taken))
 
 add-k : tie.Need-add-k Inv-loop μ-loop
 add-k c = omega arith
