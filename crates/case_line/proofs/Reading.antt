@@ -24,8 +24,8 @@ module _ (election age years months option payer term amount : Said) where
         election = election .number;
         terms = record {
           age = age .number;
-          years = years .number;
-          months = months .number;
+          «pnpa_years» = years .number;
+          «pnpa_months» = months .number;
           option = option .number;
           payer = payer .number;
           term = term .number;
@@ -50,7 +50,7 @@ in-turn : (f1 f2 f3 f4 f5 f6 f7 f8 : Field)
     onNumber f8 (λ amount.
     Whole (record {
       election = election;
-      terms = record { age = age; years = years; months = months; option = option; payer = payer; term = term; amount = amount };
+      terms = record { age = age; «pnpa_years» = years; «pnpa_months» = months; option = option; payer = payer; term = term; amount = amount };
     })))))))))
 in-turn NoNumber f2 f3 f4 f5 f6 f7 f8 = refl
 in-turn (Number _) NoNumber f3 f4 f5 f6 f7 f8 = refl

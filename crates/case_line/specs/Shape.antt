@@ -34,7 +34,7 @@ fieldsOf line =
     onNumber (fieldOf (columns 23 29 line)) (λ amount.
     Whole (record {
       election = election;
-      terms = record { age = age; years = years; months = months; option = option; payer = payer; term = term; amount = amount };
+      terms = record { age = age; «pnpa_years» = years; «pnpa_months» = months; option = option; payer = payer; term = term; amount = amount };
     })))))))))
 
 -- from 30 the marks: digits, nothing between

@@ -77,8 +77,8 @@ fn read_fields(line: &[u8]) -> Fields
     {
         let terms = Terms {
             age: age.number,
-            years: years.number,
-            months: months.number,
+            pnpa_years: years.number,
+            pnpa_months: months.number,
             option: option.number,
             payer: payer.number,
             term: term.number,

@@ -1,4 +1,4 @@
--- Rules that are tested by computing, along a list and over a range of numbers, and the laws that carry them to one place.
+-- Comparisons that are tested by computing, along a list and over a range of numbers, and the laws that carry them to one place.
 -- Assumes nothing.
 use mathlib.Core.Path.{_≡_}
 use mathlib.Core.Logic.{⊎-elim}
@@ -12,51 +12,51 @@ use lib.ListN.{length, drop}
 use Rattle.common.proofs.Tests.{and-left, and-right}
 
 -- always c d: c ≤ d. given a b c d: where a ≤ b, c ≤ d
-pub data Rule : Type 0 where
-  always : (c d : ℕ) → Rule
-  given : (a b c d : ℕ) → Rule
+pub data Comparison : Type 0 where
+  always : (c d : ℕ) → Comparison
+  given : (a b c d : ℕ) → Comparison
 
--- the rules as facts
-abbrev pub Hold : List Rule → Type 0
-Hold [] = Unit {0}
-Hold (always c d ∷ rs) = (c ≤ d) × Hold rs
-Hold (given a b c d ∷ rs) = (a ≤ b → c ≤ d) × Hold rs
+-- the comparisons as facts
+abbrev pub AllTrue : List Comparison → Type 0
+AllTrue [] = Unit {0}
+AllTrue (always c d ∷ cs) = (c ≤ d) × AllTrue cs
+AllTrue (given a b c d ∷ cs) = (a ≤ b → c ≤ d) × AllTrue cs
 
--- the rules as a test, and the law that a test that passes is a fact
+-- the comparisons as a test, and the law that a test that passes is a fact
 abbrev implies : Bool → Bool → Bool
 implies true b = b
 implies false b = true
 
-abbrev pub passes : List Rule → Bool
-passes [] = true
-passes (always c d ∷ rs) = leb c d && passes rs
-passes (given a b c d ∷ rs) = implies (leb a b) (leb c d) && passes rs
+abbrev pub compare : List Comparison → Bool
+compare [] = true
+compare (always c d ∷ cs) = leb c d && compare cs
+compare (given a b c d ∷ cs) = implies (leb a b) (leb c d) && compare cs
 
 implied : (a b : Bool) → T (implies a b) → T a → T b
 implied true b t p = t
 implied false b t p = absurd p
 
-pub hold : (rs : List Rule) → T (passes rs) → Hold rs
-hold [] t = tt
-hold (always c d ∷ rs) t = (leb→le c d (and-left (leb c d) (passes rs) t), hold rs (and-right (leb c d) (passes rs) t))
-hold (given a b c d ∷ rs) t =
+pub compared : (cs : List Comparison) → T (compare cs) → AllTrue cs
+compared [] t = tt
+compared (always c d ∷ cs) t = (leb→le c d (and-left (leb c d) (compare cs) t), compared cs (and-right (leb c d) (compare cs) t))
+compared (given a b c d ∷ cs) t =
     let i = implies (leb a b) (leb c d) in
-    (λ h. leb→le c d (implied (leb a b) (leb c d) (and-left i (passes rs) t) (le→leb a b h)), hold rs (and-right i (passes rs) t))
+    (λ h. leb→le c d (implied (leb a b) (leb c d) (and-left i (compare cs) t) (le→leb a b h)), compared cs (and-right i (compare cs) t))
 
--- f gives the rules of each place of a list, counted from i; it is handed the list from that place on, so that
+-- f gives the comparisons of each place of a list, counted from i; it is handed the list from that place on, so that
 -- neighbours are at fixed offsets and the walk takes one pass
-abbrev pub every : (ℕ → List ℕ → List Rule) → ℕ → List ℕ → Bool
+abbrev pub every : (ℕ → List ℕ → List Comparison) → ℕ → List ℕ → Bool
 every f i [] = true
-every f i (x ∷ xs) = passes (f i (x ∷ xs)) && every f (suc i) xs
+every f i (x ∷ xs) = compare (f i (x ∷ xs)) && every f (suc i) xs
 
-pub every-at : (f : ℕ → List ℕ → List Rule) (i : ℕ) (l : List ℕ) → T (every f i l) → (k : ℕ) → k < length l → Hold (f (i + k) (drop k l))
+pub every-at : (f : ℕ → List ℕ → List Comparison) (i : ℕ) (l : List ℕ) → T (every f i l) → (k : ℕ) → k < length l → AllTrue (f (i + k) (drop k l))
 every-at f i [] t k h = absurd (omega arith)
-every-at f i (x ∷ xs) t zero h = rw add-zero (hold (f i (x ∷ xs)) (and-left (passes (f i (x ∷ xs))) (every f (suc i) xs) t))
+every-at f i (x ∷ xs) t zero h = rw add-zero (compared (f i (x ∷ xs)) (and-left (compare (f i (x ∷ xs))) (every f (suc i) xs) t))
 every-at f i (x ∷ xs) t (suc k) h =
     let e : i + suc k ≡ suc i + k = omega arith in
-    rw e (every-at f (suc i) xs (and-right (passes (f i (x ∷ xs))) (every f (suc i) xs) t) k (omega arith))
+    rw e (every-at f (suc i) xs (and-right (compare (f i (x ∷ xs))) (every f (suc i) xs) t) k (omega arith))
 
--- f passes at n numbers, from i on
+-- f holds at n numbers, from i on
 abbrev pub all : (ℕ → Bool) → ℕ → ℕ → Bool
 all f i zero = true
 all f i (suc n) = f i && all f (suc i) n

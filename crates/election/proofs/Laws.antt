@@ -67,7 +67,7 @@ table-rate-most t p =
 -- nor is the upper one
 pub upper-rate-most : (t : Terms) → upperRate t ≤ 456000
 unfolding upperRate
-upper-rate-most t = either (λ x. x ≤ 456000) (eqb (t .months) 0) (omega arith) (table-rate-most t (t .years + 1))
+upper-rate-most t = either (λ x. x ≤ 456000) (eqb (t .«pnpa_months») 0) (omega arith) (table-rate-most t (t .«pnpa_years» + 1))
 
 -- there is none for a pension age above 68
 pub rate-past : (t : Terms) (p : ℕ) → 68 < p → tableRate t p ≡ 0
@@ -80,7 +80,7 @@ rate-past t p past =
 pub contribution-most : (t : Terms) (existing : ℕ) → Accepted t existing → contributionOf t ≤ 11856000
 unfolding contributionOf contributionIn contributionAt
 contribution-most t existing a =
-    combine-most (t .months) _ _ 11856000 (omega (arith, a .pension-age .months-high)) (own (t .years)) (own (t .years + 1))
+    combine-most (t .«pnpa_months») _ _ 11856000 (omega (arith, a .pension-age .months-high)) (own (t .«pnpa_years»)) (own (t .«pnpa_years» + 1))
   where
     own : (p : ℕ) → contributionIn t p ≤ 11856000
     own p = mul-le-mul {n₂ = 26} {m₂ = 456000} (omega (arith, a .under-cap)) (table-rate-most t p)
@@ -89,8 +89,8 @@ contribution-most t existing a =
 pub contribution-least : (t : Terms) (existing : ℕ) → Accepted t existing → 1 ≤ contributionOf t
 unfolding contributionOf contributionIn contributionAt
 contribution-least t existing a =
-    combine-least (t .months) _ _ 1 (omega (arith, a .pension-age .months-high)) (own (t .years) (a .lower-rate))
-    (λ odd. own (t .years + 1) (a .upper-rate (λ z. omega arith)))
+    combine-least (t .«pnpa_months») _ _ 1 (omega (arith, a .pension-age .months-high)) (own (t .«pnpa_years») (a .lower-rate))
+    (λ odd. own (t .«pnpa_years» + 1) (a .upper-rate (λ z. omega arith)))
   where
     own : (p : ℕ) → 0 < tableRate t p → 1 ≤ contributionIn t p
     own p shown = mul-pos (omega (arith, a .amount-low)) shown

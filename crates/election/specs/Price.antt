@@ -17,8 +17,8 @@ contributionIn t pensionAge = contributionAt t (tableRate t pensionAge)
 
 -- of a whole pension age that of the one table, exact in pence; with odd months each neighbouring table's own, combined
 unfoldable pub contributionOf : Terms → ℕ
-contributionOf t = combine (t .months) (contributionIn t (t .years)) (contributionIn t (t .years + 1))
+contributionOf t = combine (t .«pnpa_months») (contributionIn t (t .«pnpa_years»)) (contributionIn t (t .«pnpa_years» + 1))
 
 -- the rates that terms go by: of the only or lower pension age, and of the upper, which odd months need
 abbrev pub ratesOf : Terms → TableRates
-ratesOf t = record { lower = tableRate t (t .years); upper = upperRate t }
+ratesOf t = record { lower = tableRate t (t .«pnpa_years»); upper = upperRate t }

@@ -8,9 +8,9 @@ use Rattle.terms.specs.Rate.{tableRate}
 
 -- the pension age is from 65 years 0 months to 68 years 0 months
 pub record PensionAgeIn (t : Terms) : Type 0 where
-  pub months-high : t .months ≤ 11
-  pub years-low : 65 ≤ t .years
-  pub age-high : t .years * 12 + t .months ≤ 68 * 12
+  pub months-high : t .«pnpa_months» ≤ 11
+  pub years-low : 65 ≤ t .«pnpa_years»
+  pub age-high : t .«pnpa_years» * 12 + t .«pnpa_months» ≤ 68 * 12
 
 -- what holds of terms that no rule refuses
 pub record Accepted (t : Terms) (existing : ℕ) : Type 0 where
@@ -18,8 +18,8 @@ pub record Accepted (t : Terms) (existing : ℕ) : Type 0 where
   pub option-high : t .option ≤ 2
   pub pension-age : PensionAgeIn t
   pub term-high : t .term ≤ 20
-  pub lower-rate : 0 < tableRate t (t .years)
-  pub upper-rate : (t .months ≡ 0 → ⊥) → 0 < tableRate t (t .years + 1)
+  pub lower-rate : 0 < tableRate t (t .«pnpa_years»)
+  pub upper-rate : (t .«pnpa_months» ≡ 0 → ⊥) → 0 < tableRate t (t .«pnpa_years» + 1)
   pub amount-low : stepPounds ≤ t .amount
   pub whole : t .amount / stepPounds * stepPounds ≡ t .amount
   pub under-cap : existing + t .amount * 100 ≤ capPence

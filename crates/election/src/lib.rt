@@ -31,20 +31,20 @@ fn rate_at(option: u32, pension_age: u32, age: u32, term: u32) -> u32
 fn upper_rate(t: Terms) -> u32
     ensures { λ r. ⌜ r ≡ upperRate t ⌝ }
 {
-    if t.months == 0 {
+    if t.pnpa_months == 0 {
         return 0;
     }
-    if 67 < t.years {
+    if 67 < t.pnpa_years {
         return 0;
     }
-    rate_at(t.option, t.years + 1, t.age, t.term)
+    rate_at(t.option, t.pnpa_years + 1, t.age, t.term)
 }
 
 // The rates that terms go by, whatever the terms.
 pub fn rates_of(t: Terms) -> TableRates
     ensures { λ r. ⌜ r ≡ ratesOf t ⌝ }
 {
-    let lower = rate_at(t.option, t.years, t.age, t.term);
+    let lower = rate_at(t.option, t.pnpa_years, t.age, t.term);
     let upper = upper_rate(t);
     TableRates { lower, upper }
 }
@@ -62,7 +62,7 @@ fn wrong_amount(t: Terms) -> bool
 pub fn missing_upper(t: Terms, upper: u32) -> bool
     ensures { λ r. ⌜ r ≡ missingUpper t upper ⌝ }
 {
-    if t.months == 0 {
+    if t.pnpa_months == 0 {
         return false;
     }
     upper == 0
@@ -123,5 +123,5 @@ pub fn cost(t: Terms, rates: TableRates) -> ContributionPence
 {
     let units = t.amount / money::STEP;
     let own = ContributionPence::of_units(units, rates.lower);
-    own.combine(ContributionPence::of_units(units, rates.upper), t.months)
+    own.combine(ContributionPence::of_units(units, rates.upper), t.pnpa_months)
 }

@@ -38,8 +38,8 @@ fn narrow(row: &[u64], column: usize) -> u32 {
 fn terms(row: &[u64]) -> Terms {
     Terms {
         age: narrow(row, 0),
-        years: narrow(row, 1),
-        months: narrow(row, 2),
+        pnpa_years: narrow(row, 1),
+        pnpa_months: narrow(row, 2),
         option: narrow(row, 3),
         payer: narrow(row, 4),
         term: narrow(row, 5),

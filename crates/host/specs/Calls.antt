@@ -18,7 +18,7 @@ use Rattle.number_bytes.specs.Bytes.{inBytes}
 -- the terms that a call's numbers stand for
 abbrev pub terms : (age years months option payer term amount : ℕ) → Terms
 terms age years months option payer term amount =
-    record { age = age; years = years; months = months; option = option; payer = payer; term = term; amount = amount }
+    record { age = age; «pnpa_years» = years; «pnpa_months» = months; option = option; payer = payer; term = term; amount = amount }
 
 -- the application that a call's numbers stand for
 abbrev pub application : (npa age pay erf1 erf2 erf3 existing limit : ℕ) → Application

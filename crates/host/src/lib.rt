@@ -101,8 +101,8 @@ pub extern "C" fn ap_quote(
     }
     let t = Terms {
         age,
-        years: pnpa_years,
-        months: pnpa_months,
+        pnpa_years,
+        pnpa_months,
         option,
         payer,
         term,
@@ -137,8 +137,8 @@ pub extern "C" fn ap_settle(
     }
     let t = Terms {
         age,
-        years: pnpa_years,
-        months: pnpa_months,
+        pnpa_years,
+        pnpa_months,
         option,
         payer,
         term,
@@ -181,8 +181,8 @@ pub extern "C" fn ap_pay_off(
     }
     let t = Terms {
         age,
-        years: pnpa_years,
-        months: pnpa_months,
+        pnpa_years,
+        pnpa_months,
         option,
         payer,
         term,

@@ -4,16 +4,11 @@ ghost use mathlib.Core.Path.{_≡_};
 ghost use Prim.Native.Nat.{_+_, _*_, _-_, _/_, _<_, _^_};
 ghost use lib.Dec.{ltb};
 ghost use Rattle.rounding.specs.Nearest.{halfUp, nearest, blend, combine};
-ghost use Rattle.money.specs.Limits.{unit};
-ghost use Rattle.money.specs.Money.{pension, contribution};
-
-// Pounds of pension a year that a rate is for, and the same in pence.
-pub const STEP: u32 = 250;
-
-pub const UNIT: u64 = 25000;
-
-// The most pounds of pension a year that may be held.
-pub const CAP: u32 = 6500;
+ghost use Rattle.common.specs.Calendar.{monthsInYear};
+ghost use Rattle.scheme.specs.Scheme.{poundsInPence};
+ghost use Rattle.money.specs.Money.{pension};
+ghost use Rattle.money.specs.Contribution.{contribution};
+use common::MONTHS_IN_YEAR;
 
 // Pence of pension a year.
 pub struct PensionPence(pub u64);
@@ -30,7 +25,7 @@ impl PensionPence {
 
     // An amount in whole pounds a year.
     pub fn of_pounds(pounds: u32) -> Self
-        ensures { λ r. ⌜ r ≡ pension (pounds * 100) ⌝ }
+        ensures { λ r. ⌜ r ≡ pension (poundsInPence pounds) ⌝ }
     {
         PensionPence(pounds as u64 * 100)
     }
@@ -83,12 +78,15 @@ impl PensionPence {
         PensionPence(rounding::half_up(self.0 * thousandths as u64, 1000))
     }
 
-    // What it costs at a rate in twelfths of a penny for each unit, a half penny going up.
-    pub fn costs(self, twelfths: u64) -> ContributionPence
-        requires { ⌜ self .0 * twelfths < 2 ^ 64 ⌝ }
-        ensures { λ r. ⌜ r ≡ contribution (halfUp (self .0 * twelfths) (12 * unit)) ⌝ }
+    // What it costs at a rate in twelfths of a penny for each unit of so much pension, a half penny going up.
+    pub fn costs(self, unit: PensionPence, twelfths: u64) -> ContributionPence
+        requires { ⌜ (self .0 * twelfths < 2 ^ 64) × (unit .0 < 2 ^ 32) ⌝ }
+        ensures { λ r. ⌜ r ≡ contribution (halfUp (self .0 * twelfths) (monthsInYear * unit .0)) ⌝ }
     {
-        ContributionPence(rounding::half_up(self.0 * twelfths, 12 * UNIT))
+        ContributionPence(rounding::half_up(
+            self.0 * twelfths,
+            MONTHS_IN_YEAR as u64 * unit.0,
+        ))
     }
 
     // m twelfths of the way to another.
@@ -133,12 +131,12 @@ impl ContributionPence {
         ContributionPence(self.0 * n as u64)
     }
 
-    // The pension a year that it buys at a rate in pence for each unit.
-    pub fn buys(self, rate: u32) -> PensionPence
-        requires { ⌜ self .0 * unit < 2 ^ 64 ⌝ }
-        ensures { λ r. ⌜ r ≡ pension (nearest (self .0 * unit) rate) ⌝ }
+    // The pension a year that it buys at a rate in pence for each unit of so much pension.
+    pub fn buys(self, unit: PensionPence, rate: u32) -> PensionPence
+        requires { ⌜ self .0 * unit .0 < 2 ^ 64 ⌝ }
+        ensures { λ r. ⌜ r ≡ pension (nearest (self .0 * unit .0) rate) ⌝ }
     {
-        PensionPence(rounding::nearest(self.0 * UNIT, rate as u64))
+        PensionPence(rounding::nearest(self.0 * unit.0, rate as u64))
     }
 
     // m twelfths of the way to another.

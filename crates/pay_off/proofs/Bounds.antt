@@ -43,7 +43,7 @@ module _ (t : Terms) (ms : List ℕ) (ageNow increase : ℕ) where
             place-most = omega arith;
             remaining-most = omega (arith, a .under-cap);
             increased-most = more;
-            cost-most = price-most _ _ _ (t .months) (omega (arith, a .pension-age .months-high)) more (lump-most (t .option) (t .years) ageNow) (lump-most (t .option) _ ageNow);
+            cost-most = price-most _ _ _ (t .«pnpa_months») (omega (arith, a .pension-age .months-high)) more (lump-most (t .option) (t .«pnpa_years») ageNow) (lump-most (t .option) _ ageNow);
           }
       by-contract z (no some) =
           rw (contract-decides t ms ageNow increase z, contract-refused t (settled .status) ageNow increase (settled .credit) some)

@@ -24,21 +24,21 @@ pub record Passes (t : Terms) (status ageNow increase : ℕ) : Type 0 where
   pub printed : noLumpSumNow t ageNow ≡ false
 
 -- at a whole pension age the upper lump sum is not missed
-missing-same : (t : Terms) (a b : ℕ) → ((t .months ≡ 0 → ⊥) → a ≡ b) → missingUpper t a ≡ missingUpper t b
-missing-same t a b h = by-test (eqb (t .months) 0) (λ e. rw e) (λ e. ap (missingUpper t) (h (eqb-false (t .months) 0 e)))
+missing-same : (t : Terms) (a b : ℕ) → ((t .«pnpa_months» ≡ 0 → ⊥) → a ≡ b) → missingUpper t a ≡ missingUpper t b
+missing-same t a b h = by-test (eqb (t .«pnpa_months») 0) (λ e. rw e) (λ e. ap (missingUpper t) (h (eqb-false (t .«pnpa_months») 0 e)))
 
 -- the two lump sums of a contract
 module _ (t : Terms) (ageNow : ℕ) where
   abbrev pub lower : ℕ
-  lower = lumpSumNow t ageNow (t .years)
+  lower = lumpSumNow t ageNow (t .«pnpa_years»)
 
   abbrev pub upper : ℕ
-  upper = lumpSumNow t ageNow (t .years + 1)
+  upper = lumpSumNow t ageNow (t .«pnpa_years» + 1)
 
   -- as the code has them, looked up: the upper one with odd months only
   pub record LookedUp (sums : TableRates) : Type 0 where
     pub low : sums .lower ≡ lower
-    pub high : (t .months ≡ 0 → ⊥) → sums .upper ≡ upper
+    pub high : (t .«pnpa_months» ≡ 0 → ⊥) → sums .upper ≡ upper
 
 module _ (t : Terms) (status ageNow increase : ℕ) where
   pub passes : contractRefusal t status ageNow increase ≡ 0 → Passes t status ageNow increase
@@ -83,4 +83,4 @@ module _ (t : Terms) (status ageNow increase : ℕ) where
 pub price-is : (t : Terms) (credit ageNow increase : ℕ) {sums : TableRates} → LookedUp t ageNow sums
     → pricedPayOff t credit (sums .lower) (sums .upper) increase ≡ pricedPayOff t credit (lower t ageNow) (upper t ageNow) increase
 price-is t credit ageNow increase {sums} found =
-    rw (found .low, price-upper (increasedBy increase (remainingOf t credit)) (lower t ageNow) (sums .upper) (upper t ageNow) (t .months) (found .high))
+    rw (found .low, price-upper (increasedBy increase (remainingOf t credit)) (lower t ageNow) (sums .upper) (upper t ageNow) (t .«pnpa_months») (found .high))

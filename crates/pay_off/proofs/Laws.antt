@@ -14,7 +14,7 @@ use Rattle.pay_off.proofs.Contract.{contract-priced, contract-number}
 pub record PricedIs (t : Terms) (ms : List ℕ) (ageNow increase : ℕ) : Type 0 where
   pub accepted : settleOf t ms .refusal ≡ 0
   pub none : contractRefusal t (settleOf t ms .status) ageNow increase ≡ 0
-  pub numbers : payOffOf t ms ageNow increase ≡ pricedPayOff t (settleOf t ms .credit) (lumpSumNow t ageNow (t .years)) (lumpSumNow t ageNow (t .years + 1)) increase
+  pub numbers : payOffOf t ms ageNow increase ≡ pricedPayOff t (settleOf t ms .credit) (lumpSumNow t ageNow (t .«pnpa_years»)) (lumpSumNow t ageNow (t .«pnpa_years» + 1)) increase
 
 module _ (t : Terms) (ms : List ℕ) (ageNow increase : ℕ) where
   abbrev settled : SettleNumbers

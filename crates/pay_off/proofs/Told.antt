@@ -38,15 +38,15 @@ module _ (t : Terms) (ageNow : ℕ) (there : noLumpSumNow t ageNow ≡ false) wh
   above p some = lump-above (t .option) p ageNow (lump-printed (t .option) p ageNow some)
 
   -- neither is missing
-  both : (eqb (lumpSumNow t ageNow (t .years)) 0 ≡ false) × (missingUpper t (lumpSumNow t ageNow (t .years + 1)) ≡ false)
+  both : (eqb (lumpSumNow t ageNow (t .«pnpa_years»)) 0 ≡ false) × (missingUpper t (lumpSumNow t ageNow (t .«pnpa_years» + 1)) ≡ false)
   unfolding noLumpSumNow
-  both = or-false (eqb (lumpSumNow t ageNow (t .years)) 0) (missingUpper t (lumpSumNow t ageNow (t .years + 1))) there
+  both = or-false (eqb (lumpSumNow t ageNow (t .«pnpa_years»)) 0) (missingUpper t (lumpSumNow t ageNow (t .«pnpa_years» + 1))) there
 
-  lower-above : 25000 < lumpSumNow t ageNow (t .years)
-  lower-above = above (t .years) (omega (arith, eqb-false (lumpSumNow t ageNow (t .years)) 0 (both .0)))
+  lower-above : 25000 < lumpSumNow t ageNow (t .«pnpa_years»)
+  lower-above = above (t .«pnpa_years») (omega (arith, eqb-false (lumpSumNow t ageNow (t .«pnpa_years»)) 0 (both .0)))
 
-  upper-above : 0 < t .months → 25000 < lumpSumNow t ageNow (t .years + 1)
-  upper-above odd = above (t .years + 1) (upper-there t _ (both .1) (λ z. omega arith))
+  upper-above : 0 < t .«pnpa_months» → 25000 < lumpSumNow t ageNow (t .«pnpa_years» + 1)
+  upper-above odd = above (t .«pnpa_years» + 1) (upper-there t _ (both .1) (λ z. omega arith))
 
 module _ (t : Terms) (ms : List ℕ) (ageNow increase : ℕ) where
   abbrev settled : SettleNumbers
@@ -63,7 +63,7 @@ module _ (t : Terms) (ms : List ℕ) (ageNow increase : ℕ) where
   none-left z left =
       let is = priced-is t ms ageNow increase z .numbers in
       let rest = sym (ap (λ (n : PayOffNumbers). n .remaining) is) ∙ left in
-      rw is (rw rest (rw (increased-none increase) (refl, price-none _ _ (t .months))))
+      rw is (rw rest (rw (increased-none increase) (refl, price-none _ _ (t .«pnpa_months»))))
 
   rises : answer .refusal ≡ 0 → (answer .remaining ≤ answer .increased) × (answer .increased ≤ answer .cost)
   rises z =
@@ -72,7 +72,7 @@ module _ (t : Terms) (ms : List ℕ) (ageNow increase : ℕ) where
       let age = settled-terms t ms (is .accepted) .pension-age in
       rw (is .numbers) (
         increased-least increase _ (pass .increase-low),
-        price-least _ _ _ (t .months) (omega (arith, age .months-high))
+        price-least _ _ _ (t .«pnpa_months») (omega (arith, age .months-high))
             (omega (arith, lower-above t ageNow (pass .printed)))
             (λ odd. omega (arith, upper-above t ageNow (pass .printed) odd)),
       )
@@ -111,20 +111,20 @@ module _ (t : Terms) (ms : List ℕ) (ageNow increase : ℕ) where
   no-lump-says : noLumpSumNow t ageNow ≡ true → LacksLumpSum t ageNow
   unfolding noLumpSumNow
   no-lump-says e =
-      by-test (eqb (lumpSumNow t ageNow (t .years)) 0)
+      by-test (eqb (lumpSumNow t ageNow (t .«pnpa_years»)) 0)
       (λ lower.
-      (t .years, (inl refl, λ there. omega (arith, eqb-true (lumpSumNow t ageNow (t .years)) 0 lower, lump-shown (t .option) (t .years) ageNow there))))
+      (t .«pnpa_years», (inl refl, λ there. omega (arith, eqb-true (lumpSumNow t ageNow (t .«pnpa_years»)) 0 lower, lump-shown (t .option) (t .«pnpa_years») ageNow there))))
       (λ lower.
-      let m = upper-missing t (lumpSumNow t ageNow (t .years + 1)) (rw lower at e) in
-      (t .years + 1, (inr (refl, m .0), λ there. omega (arith, m .1, lump-shown (t .option) (t .years + 1) ageNow there))))
+      let m = upper-missing t (lumpSumNow t ageNow (t .«pnpa_years» + 1)) (rw lower at e) in
+      (t .«pnpa_years» + 1, (inr (refl, m .0), λ there. omega (arith, m .1, lump-shown (t .option) (t .«pnpa_years» + 1) ageNow there))))
 
   says-no-lump : LacksLumpSum t ageNow → noLumpSumNow t ageNow ≡ true
   unfolding noLumpSumNow
   says-no-lump lacks =
       let none = lump-none (t .option) (lacks .0) ageNow (lacks .1 .1) in
       ⊎-elim
-      (λ e. rw (eq-eqb (lumpSumNow t ageNow (t .years)) 0 (rw e at none)))
-      (λ e. rw (missing-upper t _ (e .1) (rw (e .0) at none)) (or-true (eqb (lumpSumNow t ageNow (t .years)) 0)))
+      (λ e. rw (eq-eqb (lumpSumNow t ageNow (t .«pnpa_years»)) 0 (rw e at none)))
+      (λ e. rw (missing-upper t _ (e .1) (rw (e .0) at none)) (or-true (eqb (lumpSumNow t ageNow (t .«pnpa_years»)) 0)))
       (lacks .1 .0)
 
   no-place : settled .refusal ≡ 0 → answer .place ≡ 0

@@ -36,7 +36,7 @@ lumpSumNow t ageNow pensionAge = lumpRateOf (t .option) pensionAge ageNow
 -- 5: none is printed at the only or lower pension age, or at the upper, which odd months need
 unfoldable pub noLumpSumNow : Terms → (ageNow : ℕ) → Bool
 noLumpSumNow t ageNow =
-    eqb (lumpSumNow t ageNow (t .years)) 0 || missingUpper t (lumpSumNow t ageNow (t .years + 1))
+    eqb (lumpSumNow t ageNow (t .«pnpa_years»)) 0 || missingUpper t (lumpSumNow t ageNow (t .«pnpa_years» + 1))
 
 -- what refuses to pay off a contract that Settle accepts: 16, 17, 5, in this order
 unfoldable pub contractRefusal : Terms → (status ageNow increase : ℕ) → ℕ
@@ -60,14 +60,14 @@ pricedPayOff t credit lower upper increase =
       place = 0;
       remaining = remainingOf t credit;
       increased = increased;
-      cost = priceOf increased lower upper (t .months);
+      cost = priceOf increased lower upper (t .«pnpa_months»);
     }
 
 -- a contract that Settle accepts, by its status and credit: a refusal, or its price at the age now
 unfoldable pub contractPayOff : Terms → (status credit ageNow increase : ℕ) → PayOffNumbers
 contractPayOff t status credit ageNow increase =
     pick (eqb (contractRefusal t status ageNow increase) 0)
-    (pricedPayOff t credit (lumpSumNow t ageNow (t .years)) (lumpSumNow t ageNow (t .years + 1)) increase)
+    (pricedPayOff t credit (lumpSumNow t ageNow (t .«pnpa_years»)) (lumpSumNow t ageNow (t .«pnpa_years» + 1)) increase)
     (refusedPayOff (contractRefusal t status ageNow increase) 0)
 
 -- Pay off: what Settle refuses is refused with Settle's number and place

@@ -62,13 +62,13 @@ fn wrong_increase(increase: u32) -> bool
 // The lump sums at the age now, as an election by lump sum looks them up; the upper one is needed with odd months only. They are not
 // asked of `rates` here: with a second caller its lookup would no longer be inlined into the first (docs/SPEED.md).
 fn lump_sums_now(t: Terms, age_now: u32) -> TableRates
-    ensures lower { λ r. ⌜ r .lower ≡ lumpSumNow t «age_now» (t .years) ⌝ }
-    ensures upper { λ r. ⌜ ((t .months ≡ 0 → ⊥) → r .upper ≡ lumpSumNow t «age_now» (t .years + 1)) ⌝ }
+    ensures lower { λ r. ⌜ r .lower ≡ lumpSumNow t «age_now» (t .«pnpa_years») ⌝ }
+    ensures upper { λ r. ⌜ ((t .«pnpa_months» ≡ 0 → ⊥) → r .upper ≡ lumpSumNow t «age_now» (t .«pnpa_years» + 1)) ⌝ }
 {
     election::rates_of(Terms {
         age: age_now,
-        years: t.years,
-        months: t.months,
+        pnpa_years: t.pnpa_years,
+        pnpa_months: t.pnpa_months,
         option: t.option,
         payer: t.payer,
         term: 0,
@@ -111,7 +111,7 @@ fn priced(t: Terms, credit: PensionPence, sums: TableRates, increase: u32) -> Pa
     let whole = PensionPence::of_pounds(t.amount);
     let remaining = whole.less(credit);
     let increased = remaining.increased(increase);
-    let cost = price(increased, sums.lower, sums.upper, t.months);
+    let cost = price(increased, sums.lower, sums.upper, t.pnpa_months);
     PayOff::Priced {
         remaining,
         increased,

@@ -10,8 +10,8 @@ use terms::Terms;
 fn terms(term: u32, amount: u32) -> Terms {
     Terms {
         age: 50,
-        years: 65,
-        months: 0,
+        pnpa_years: 65,
+        pnpa_months: 0,
         option: 2,
         payer: 1,
         term,

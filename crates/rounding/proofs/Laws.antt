@@ -7,17 +7,17 @@ use native.Mathlib.Omega.{arith}
 use lib.Dec.{eqb}
 use borrow.Author.Tests.{eq-eqb, ne-eqb, eqb-false}
 use Rattle.common.proofs.Tests.{by-test}
-use Rattle.rounding.specs.Nearest.{nearest, blendBy, blend, combineBy, combine}
+use Rattle.rounding.specs.Nearest.{nearest, twelfths, blendBy, blend, combineBy, combine}
 use Rattle.rounding.specs.Rounding.{WithinHalf}
 use Rattle.rounding.proofs.InForce.{nearest-within-half}
 
 -- twelfths m and 12 − m of figures that are at most u, or at least l
-pub weighted-most : (m lo hi u : ℕ) → m ≤ 12 → lo ≤ u → hi ≤ u → (12 - m) * lo + m * hi ≤ u * 12
+pub weighted-most : (m lo hi u : ℕ) → m ≤ 12 → lo ≤ u → hi ≤ u → twelfths m lo hi ≤ u * 12
 weighted-most m lo hi u h p q =
     let s : (12 - m) + m ≡ 12 = omega arith in
     omega (arith, mul-le-mul-left (12 - m) p, mul-le-mul-left m q, ap (λ t. t * u) s)
 
-pub weighted-least : (m lo hi l : ℕ) → m ≤ 12 → l ≤ lo → l ≤ hi → l * 12 ≤ (12 - m) * lo + m * hi
+pub weighted-least : (m lo hi l : ℕ) → m ≤ 12 → l ≤ lo → l ≤ hi → l * 12 ≤ twelfths m lo hi
 weighted-least m lo hi l h p q =
     let s : (12 - m) + m ≡ 12 = omega arith in
     omega (arith, mul-le-mul-left (12 - m) p, mul-le-mul-left m q, ap (λ t. t * l) s)
@@ -41,15 +41,15 @@ module _ (round : ℕ → ℕ → ℕ) (half : WithinHalf round) where
 
   -- a blend lies between bounds of both figures
   pub blended-most : (m lo hi u : ℕ) → m ≤ 12 → lo ≤ u → hi ≤ u → blendBy round m lo hi ≤ u
-  blended-most m lo hi u h p q = round-most ((12 - m) * lo + m * hi) 12 u (omega arith) (weighted-most m lo hi u h p q)
+  blended-most m lo hi u h p q = round-most (twelfths m lo hi) 12 u (omega arith) (weighted-most m lo hi u h p q)
 
   blended-least : (m lo hi l : ℕ) → m ≤ 12 → l ≤ lo → l ≤ hi → l ≤ blendBy round m lo hi
-  blended-least m lo hi l h p q = round-least ((12 - m) * lo + m * hi) 12 l (omega arith) (weighted-least m lo hi l h p q)
+  blended-least m lo hi l h p q = round-least (twelfths m lo hi) 12 l (omega arith) (weighted-least m lo hi l h p q)
 
   -- no twelfths: the first figure itself
   pub blended-none : (lo hi : ℕ) → blendBy round 0 lo hi ≡ lo
   blended-none lo hi =
-      let e : (12 - 0) * lo + 0 * hi ≡ lo * 12 = omega arith in
+      let e : twelfths 0 lo hi ≡ lo * 12 = omega arith in
       ap (λ (n : ℕ). round n 12) e ∙ round-whole lo 12 (omega arith)
 
   -- two tables' figures combined lie between bounds of both, where the upper one counts with odd months only

@@ -4,6 +4,7 @@
 use Prim.Native.Nat.{ℕ, _+_, _*_, _-_, _/_}
 use lib.Dec.{eqb}
 use Rattle.common.specs.Choice.{pick}
+use Rattle.common.specs.Calendar.{monthsInYear}
 use Rattle.rounding.specs.HalfEven.{halfEven}
 
 -- n ÷ d to the nearest whole number, a half going up: the whole part of n ÷ d + 1/2
@@ -14,18 +15,22 @@ halfUp n d = (2 * n + d) / (2 * d)
 unfoldable pub nearest : ℕ → ℕ → ℕ
 nearest = halfEven
 
--- ((12 − m) × lo + m × hi) ÷ 12, by a rounding
-abbrev pub blendBy : (ℕ → ℕ → ℕ) → ℕ → ℕ → ℕ → ℕ
-blendBy round m lo hi = round ((12 - m) * lo + m * hi) 12
+-- m twelfths of the way from lo to hi, in twelfths: (12 − m) × lo + m × hi
+abbrev pub twelfths : (m lo hi : ℕ) → ℕ
+twelfths m lo hi = (monthsInYear - m) * lo + m * hi
 
--- the same by the rule in force
-unfoldable pub blend : ℕ → ℕ → ℕ → ℕ
+-- the same whole, by a rounding
+abbrev pub blendBy : (ℕ → ℕ → ℕ) → (m lo hi : ℕ) → ℕ
+blendBy round m lo hi = round (twelfths m lo hi) monthsInYear
+
+-- by the rule in force
+unfoldable pub blend : (m lo hi : ℕ) → ℕ
 blend = blendBy nearest
 
 -- the figures of two neighbouring tables, by a rounding: at a whole pension age the lower one's, with m odd months both blended
-abbrev pub combineBy : (ℕ → ℕ → ℕ) → ℕ → ℕ → ℕ → ℕ
+abbrev pub combineBy : (ℕ → ℕ → ℕ) → (m lo hi : ℕ) → ℕ
 combineBy round m lo hi = pick (eqb m 0) lo (blendBy round m lo hi)
 
--- the same by the rule in force
-unfoldable pub combine : ℕ → ℕ → ℕ → ℕ
+-- by the rule in force
+unfoldable pub combine : (m lo hi : ℕ) → ℕ
 combine = combineBy nearest

@@ -3,7 +3,8 @@
 ghost use mathlib.Core.Path.{_≡_};
 ghost use Prim.Native.Nat.{_%_};
 ghost use Rattle.rounding.specs.HalfEven.{halfEven};
-ghost use Rattle.rounding.specs.Nearest.{halfUp, nearest, blend};
+ghost use Rattle.rounding.specs.Nearest.{halfUp, nearest, twelfths, blend};
+use common::MONTHS_IN_YEAR;
 
 // n ÷ d to the nearest whole number, a half going up; 0 where d is 0. Below half of d, which is rounded up here, it is 0; from there on 1,
 // and one more for each further d.
@@ -50,13 +51,20 @@ pub fn nearest(n: u64, d: u64) -> u64
     half_even(n, d)
 }
 
-// ((12 − m) × lo + m × hi) ÷ 12 to the nearest; 12 − m is 0 where m is more than 12.
+// m twelfths of the way from lo to hi, in twelfths: (12 − m) × lo + m × hi; 12 − m is 0 where m is more than 12.
+pub fn twelfths(m: u32, lo: u32, hi: u32) -> u64
+    ensures { λ r. ⌜ r ≡ twelfths m lo hi ⌝ }
+{
+    if m < MONTHS_IN_YEAR {
+        let rest = MONTHS_IN_YEAR - m;
+        return rest as u64 * lo as u64 + m as u64 * hi as u64;
+    }
+    m as u64 * hi as u64
+}
+
+// The same whole, to the nearest.
 pub fn blend(m: u32, lo: u32, hi: u32) -> u64
     ensures { λ r. ⌜ r ≡ blend m lo hi ⌝ }
 {
-    if m < 12 {
-        let rest = 12 - m;
-        return nearest(rest as u64 * lo as u64 + m as u64 * hi as u64, 12);
-    }
-    nearest(m as u64 * hi as u64, 12)
+    nearest(twelfths(m, lo, hi), MONTHS_IN_YEAR as u64)
 }

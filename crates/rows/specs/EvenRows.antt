@@ -15,7 +15,7 @@ use Rattle.rows.specs.Rows.{Row, _is_, only, at50, fiveYears, paidFor, m
 -- the same terms with odd months
 abbrev pub oddly : ℕ → Terms → Terms
 oddly m t =
-    record { age = t .age; years = t .years; months = m; option = t .option; payer = t .payer; term = t .term; amount = t .amount }
+    record { age = t .age; «pnpa_years» = t .«pnpa_years»; «pnpa_months» = m; option = t .option; payer = t .payer; term = t .term; amount = t .amount }
 
 -- n ÷ d is a whole number and a half
 abbrev pub isHalf : ℕ → ℕ → ℕ → Row
@@ -23,13 +23,13 @@ isHalf n d whole = only (2 * n) is only ((2 * whole + 1) * d)
 
 -- twelve times two tables' combined contributions, and twelve times their combined credits, before they are rounded
 abbrev pub contributionTwelfths : Terms → ℕ
-contributionTwelfths t = combineBy undivided (t .months) (contributionIn t (t .years)) (contributionIn t (t .years + 1))
+contributionTwelfths t = combineBy undivided (t .«pnpa_months») (contributionIn t (t .«pnpa_years»)) (contributionIn t (t .«pnpa_years» + 1))
 
 abbrev pub creditTwelfths : Terms → List ℕ → ℕ
 creditTwelfths t marks =
-    combineBy undivided (t .months)
-    (creditIn nearest (purchaseIn t (t .years)) marks)
-    (creditIn nearest (purchaseIn t (t .years + 1)) marks)
+    combineBy undivided (t .«pnpa_months»)
+    (creditIn nearest (purchaseIn t (t .«pnpa_years»)) marks)
+    (creditIn nearest (purchaseIn t (t .«pnpa_years» + 1)) marks)
 
 -- £750 over 4 years, at 65 years and 5 or 7 months
 unfoldable pub evenContributions : List Row
@@ -43,7 +43,7 @@ evenContributions =
 -- year n: what is divided by the rate for n is so many pence and a half, and the credit is as stated
 abbrev pub yearRows : Terms → ℕ → (whole stated : ℕ) → List Row
 yearRows t n whole stated =
-    let p = purchaseIn t (t .years) in
+    let p = purchaseIn t (t .«pnpa_years») in
     isHalf (yearCredit undivided p n) (p .rate n) whole ∷ (only (yearCredit nearest p n) is only stated) ∷ []
 
 -- year 2 of £1,500 over 8 years and of £1,000 over 3 years, in D67

@@ -9,7 +9,7 @@ use Rattle.rows.specs.Rows.{Row, _is_, only}
 
 -- the whole cap from age 63, with dependant's pension, over one year: the one term for which D65 has a rate at that age
 abbrev pub greatest : Terms
-greatest = record { age = 63; years = 65; months = 0; option = 2; payer = 1; term = 1; amount = 6500 }
+greatest = record { age = 63; «pnpa_years» = 65; «pnpa_months» = 0; option = 2; payer = 1; term = 1; amount = 6500 }
 
 -- the rate is 3,816 tenths of a pound; for twenty-six units that makes 99,216 tenths, more than 16 bits hold
 unfoldable pub narrowRows : List Row

@@ -35,7 +35,7 @@ paidOff t marks ageNow increase =
 
 -- a personal pension at 66 years 5 months: document 001's contract at this scheme's rates
 abbrev pub fourYears : Terms
-fourYears = record { age = 60; years = 66; months = 5; option = 1; payer = 1; term = 4; amount = 1500 }
+fourYears = record { age = 60; «pnpa_years» = 66; «pnpa_months» = 5; option = 1; payer = 1; term = 4; amount = 1500 }
 
 -- £1,000 over 5 years: 18 paid months, at 1.250 also, where half a penny goes up though that of the credit went down; the gap, ceased,
 -- complete; then the other contract

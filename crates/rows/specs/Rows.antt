@@ -28,7 +28,7 @@ only n = n ∷ []
 -- a member aged 50 who buys with dependant's pension, monthly, at a whole pension age
 abbrev pub at50 : ℕ → ℕ → ℕ → Terms
 at50 pensionAge term amount =
-    record { age = 50; years = pensionAge; months = 0; option = 2; payer = 1; term = term; amount = amount }
+    record { age = 50; «pnpa_years» = pensionAge; «pnpa_months» = 0; option = 2; payer = 1; term = term; amount = amount }
 
 -- £1,250 over 9 years in D67, and £1,000 over 5 years in D65
 abbrev pub nineYears : Terms
@@ -39,7 +39,7 @@ fiveYears = at50 65 5 1000
 
 -- document 000's fourth example: £1,750 over 10 years from age 54, at 66 years 5 months
 abbrev pub oddMonths : Terms
-oddMonths = record { age = 54; years = 66; months = 5; option = 2; payer = 1; term = 10; amount = 1750 }
+oddMonths = record { age = 54; «pnpa_years» = 66; «pnpa_months» = 5; option = 2; payer = 1; term = 10; amount = 1750 }
 
 -- the costs of both; two credits at 5 odd months; £250 and £500 beside an existing £6,250
 unfoldable pub priceRows : List Row
@@ -66,11 +66,11 @@ settled t marks =
 
 -- the whole-year credits of the only table, for the first years
 abbrev pub firstYears : ℕ → Terms → List ℕ
-firstYears n t = take n (yearCredits nearest (purchaseIn t (t .years)))
+firstYears n t = take n (yearCredits nearest (purchaseIn t (t .«pnpa_years»)))
 
 -- the value at a contract month in the only table
 abbrev pub valueAt : Terms → ℕ → ℕ
-valueAt t month = monthValue nearest (yearCredits nearest (purchaseIn t (t .years))) month
+valueAt t month = monthValue nearest (yearCredits nearest (purchaseIn t (t .«pnpa_years»))) month
 
 -- what is to be divided, in place of the rounded quotient
 abbrev pub undivided : ℕ → ℕ → ℕ
@@ -78,7 +78,7 @@ undivided n d = n
 
 -- twelve times that value before it is rounded
 abbrev pub twelfthsAt : Terms → ℕ → ℕ
-twelfthsAt t month = monthValue undivided (yearCredits nearest (purchaseIn t (t .years))) month
+twelfthsAt t month = monthValue undivided (yearCredits nearest (purchaseIn t (t .«pnpa_years»))) month
 
 -- year 1 and five paid months of the first contract; years 1 to 5, 18 paid months and the gap of the second
 unfoldable pub creditRows : List Row

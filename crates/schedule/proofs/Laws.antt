@@ -57,14 +57,14 @@ module _ (t : Terms) (marks lower upper : List ℕ) (tables : Tables t marks low
 
   -- both combined are the credit of the runs so far
   runs-so-far : (i : ℕ)
-      → combine (t .months) (creditAt nearest lower (afterMarks nearest lower nothingYet (take i marks)))
+      → combine (t .«pnpa_months») (creditAt nearest lower (afterMarks nearest lower nothingYet (take i marks)))
       (creditAt nearest upper (afterMarks nearest upper nothingYet (take i marks)))
       ≡ creditOf t (take i marks)
   unfolding creditIn
   runs-so-far i =
       rw (by-runs nearest lower (take i marks), by-runs nearest upper (take i marks), credit-combined t (take i marks))
       (rw (tables .lower-is)
-      (combine-upper (t .months) _ _ _ (λ odd. ap (λ (y : List ℕ). creditOver nearest y (take i marks)) (tables .upper-is odd))))
+      (combine-upper (t .«pnpa_months») _ _ _ (λ odd. ap (λ (y : List ℕ). creditOver nearest y (take i marks)) (tables .upper-is odd))))
 
   -- the entry, by the status after the marks so far
   entry-is : (i : ℕ) → entryOf t marks i

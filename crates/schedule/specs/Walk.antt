@@ -52,7 +52,7 @@ pub record WalkTold (w : Walk) (lower upper : List ℕ) (mark i : ℕ) (r : Walk
 unfoldable pub heldOf : Terms → Walk → List ℕ → List ℕ → ℕ
 heldOf t w lower upper =
     pick (eqb (statusFrom (t .term) (w .reading)) 5) 0
-    (combine (t .months) (creditAt nearest lower (w .lower)) (creditAt nearest upper (w .upper)))
+    (combine (t .«pnpa_months») (creditAt nearest lower (w .lower)) (creditAt nearest upper (w .upper)))
 
 -- what `held` asks: credits that fit
 pub record Holdable (w : Walk) (lower upper : List ℕ) : Type 0 where
@@ -65,8 +65,8 @@ pub record Holdable (w : Walk) (lower upper : List ℕ) : Type 0 where
 pub record Tables (t : Terms) (marks lower upper : List ℕ) : Type 0 where
   pub none-refused : settleRefusal t marks ≡ 0
   pub monthly : 0 < t .term
-  pub lower-is : lower ≡ yearCredits nearest (purchaseIn t (t .years))
-  pub upper-is : (t .months ≡ 0 → ⊥) → upper ≡ yearCredits nearest (purchaseIn t (t .years + 1))
+  pub lower-is : lower ≡ yearCredits nearest (purchaseIn t (t .«pnpa_years»))
+  pub upper-is : (t .«pnpa_months» ≡ 0 → ⊥) → upper ≡ yearCredits nearest (purchaseIn t (t .«pnpa_years» + 1))
   pub lower-most : (n : ℕ) → getD lower n 0 ≤ capPence
   pub upper-most : (n : ℕ) → getD upper n 0 ≤ capPence
 
@@ -77,5 +77,5 @@ pub record UpperAsked (t : Terms) (rates : TableRates) (only : List ℕ) : Type 
 
 -- what `upper_years` promises: the upper table's whole-year credits with odd months
 pub record UpperYears (t : Terms) (r : List ℕ) : Type 0 where
-  pub is : (t .months ≡ 0 → ⊥) → r ≡ yearCredits nearest (purchaseIn t (t .years + 1))
+  pub is : (t .«pnpa_months» ≡ 0 → ⊥) → r ≡ yearCredits nearest (purchaseIn t (t .«pnpa_years» + 1))
   pub most : (n : ℕ) → getD r n 0 ≤ capPence

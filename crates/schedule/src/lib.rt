@@ -53,11 +53,11 @@ fn held(t: Terms, w: Walk, lower: [u32; 21], upper: [u32; 21]) -> PensionPence
     }
     let only = w.lower;
     let credit = credit::credit_at(only, lower);
-    if t.months == 0 {
+    if t.pnpa_months == 0 {
         return credit;
     }
     let other = w.upper;
-    credit.combine(credit::credit_at(other, upper), t.months)
+    credit.combine(credit::credit_at(other, upper), t.pnpa_months)
 }
 
 // An entry for each mark. Each mark is walked through once.
@@ -84,12 +84,12 @@ fn upper_years(t: Terms, rates: TableRates, only: [u32; 21]) -> [u32; 21]
     requires { ⌜ UpperAsked t rates only ⌝ }
     ensures { λ r. ⌜ UpperYears t r ⌝ }
 {
-    if t.months == 0 {
+    if t.pnpa_months == 0 {
         return only;
     }
     years::year_credits(
         t.option,
-        t.years + 1,
+        t.pnpa_years + 1,
         t.age,
         t.term,
         t.amount / money::STEP,
@@ -124,7 +124,7 @@ pub fn schedule(t: Terms, marks: &[u8], out: &mut [u32]) -> Scheduled
     let rates = e.rates;
     let only = years::year_credits(
         t.option,
-        t.years,
+        t.pnpa_years,
         t.age,
         t.term,
         t.amount / money::STEP,

@@ -23,20 +23,20 @@ use Rattle.distance.specs.Distance.{Sound}
 use Rattle.settlement.specs.Credit.{purchaseIn, purchasesOf, creditOf}
 
 module _ (t : Terms) (a : Accepted t 0) (monthly : 0 < t .term) where
-  lower-printed : 0 < rateOf (t .option) (t .years) (t .age) (t .term)
-  lower-printed = rw (monthly-rate t (t .years) monthly) at (a .lower-rate)
+  lower-printed : 0 < rateOf (t .option) (t .«pnpa_years») (t .age) (t .term)
+  lower-printed = rw (monthly-rate t (t .«pnpa_years») monthly) at (a .lower-rate)
 
-  upper-printed : (t .months ≡ 0 → ⊥) → 0 < rateOf (t .option) (t .years + 1) (t .age) (t .term)
-  upper-printed odd = rw (monthly-rate t (t .years + 1) monthly) at (a .upper-rate odd)
+  upper-printed : (t .«pnpa_months» ≡ 0 → ⊥) → 0 < rateOf (t .option) (t .«pnpa_years» + 1) (t .age) (t .term)
+  upper-printed odd = rw (monthly-rate t (t .«pnpa_years» + 1) monthly) at (a .upper-rate odd)
 
   pub sound : Sound (purchasesOf t)
   sound =
       record {
         odd-most = omega (arith, a .pension-age .months-high);
         term-most = a .term-high;
-        lower-falls = rates-fall (t .option) (t .years) (t .age) (t .term) (t .amount / stepPounds) lower-printed;
+        lower-falls = rates-fall (t .option) (t .«pnpa_years») (t .age) (t .term) (t .amount / stepPounds) lower-printed;
         upper-falls =
-            λ odd. rates-fall (t .option) (t .years + 1) (t .age) (t .term) (t .amount / stepPounds) (upper-printed (λ z. omega arith));
+            λ odd. rates-fall (t .option) (t .«pnpa_years» + 1) (t .age) (t .term) (t .amount / stepPounds) (upper-printed (λ z. omega arith));
         same-term = refl;
         same-units = refl;
       }
@@ -46,13 +46,13 @@ module _ (t : Terms) (a : Accepted t 0) (monthly : 0 < t .term) where
 
   -- what `year_credits` asks of the rates that the terms go by
   module _ {rates : TableRates} (are : rates ≡ ratesOf t) where
-    pub lower-asked : (rates .lower ≡ rateOf (t .option) (t .years) (t .age) (t .term)) × ((0 < rates .lower) × (t .amount / stepPounds * unit < 2 ^ 32))
-    lower-asked = rw are (monthly-rate t (t .years) monthly, (a .lower-rate, units-fit))
+    pub lower-asked : (rates .lower ≡ rateOf (t .option) (t .«pnpa_years») (t .age) (t .term)) × ((0 < rates .lower) × (t .amount / stepPounds * unit < 2 ^ 32))
+    lower-asked = rw are (monthly-rate t (t .«pnpa_years») monthly, (a .lower-rate, units-fit))
 
-    pub upper-asked : (t .months ≡ 0 → ⊥)
-        → (rates .upper ≡ rateOf (t .option) (t .years + 1) (t .age) (t .term)) × ((0 < rates .upper) × (t .amount / stepPounds * unit < 2 ^ 32))
+    pub upper-asked : (t .«pnpa_months» ≡ 0 → ⊥)
+        → (rates .upper ≡ rateOf (t .option) (t .«pnpa_years» + 1) (t .age) (t .term)) × ((0 < rates .upper) × (t .amount / stepPounds * unit < 2 ^ 32))
     upper-asked odd =
-        rw (are, upper-rate-odd t odd) (monthly-rate t (t .years + 1) monthly, (a .upper-rate odd, units-fit))
+        rw (are, upper-rate-odd t odd) (monthly-rate t (t .«pnpa_years» + 1) monthly, (a .upper-rate odd, units-fit))
 
 -- a table's own contribution, by which its credit is worked out, is the one that the terms are priced by
 pub own-is-priced : (t : Terms) (p : ℕ) → 0 < t .term → ownContribution (purchaseIn t p) ≡ contributionIn t p
@@ -70,6 +70,6 @@ credit-fits years ms few most =
 
 -- the credit of a contract is that of its tables combined
 pub credit-combined : (t : Terms) (ms : List ℕ)
-    → creditOf t ms ≡ combine (t .months) (creditIn nearest (purchaseIn t (t .years)) ms) (creditIn nearest (purchaseIn t (t .years + 1)) ms)
+    → creditOf t ms ≡ combine (t .«pnpa_months») (creditIn nearest (purchaseIn t (t .«pnpa_years»)) ms) (creditIn nearest (purchaseIn t (t .«pnpa_years» + 1)) ms)
 unfolding creditOf combine
 credit-combined t ms = refl

@@ -16,7 +16,7 @@ purchaseIn t pensionAge = purchase (t .option) pensionAge (t .age) (t .term) (t 
 
 -- the odd months of the pension age, and its two neighbouring tables
 abbrev pub purchasesOf : Terms → Purchases
-purchasesOf t = record { odd = t .months; lower = purchaseIn t (t .years); upper = purchaseIn t (t .years + 1) }
+purchasesOf t = record { odd = t .«pnpa_months»; lower = purchaseIn t (t .«pnpa_years»); upper = purchaseIn t (t .«pnpa_years» + 1) }
 
 -- the credit to the nearest penny, each table's worked out whole before two are combined
 unfoldable pub creditOf : Terms → List ℕ → ℕ

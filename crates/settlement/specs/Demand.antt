@@ -18,4 +18,4 @@ Demand3 t marks n =
     → (1 ≤ t .term) × (t .term ≤ 20)
     → 1 ≤ runCount marks
     → (statusOf (t .term) marks ≡ 5 → ⊥)
-    → Within (n .credit) (exactCreditOf t marks) (halfPence (t .months) (runCount marks))
+    → Within (n .credit) (exactCreditOf t marks) (halfPence (t .«pnpa_months») (runCount marks))

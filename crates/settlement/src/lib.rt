@@ -37,14 +37,14 @@ fn earned(t: Terms, rates: TableRates, marks: &[u8]) -> PensionPence
     ensures { λ r. ⌜ r ≡ pension (creditOf t (now (marks .entry))) ⌝ }
 {
     let units = t.amount / money::STEP;
-    let years = years::year_credits(t.option, t.years, t.age, t.term, units, rates.lower);
+    let years = years::year_credits(t.option, t.pnpa_years, t.age, t.term, units, rates.lower);
     let only = credit::credit_over(years, marks);
-    if t.months == 0 {
+    if t.pnpa_months == 0 {
         return only;
     }
-    let upper_years = years::year_credits(t.option, t.years + 1, t.age, t.term, units, rates.upper);
+    let upper_years = years::year_credits(t.option, t.pnpa_years + 1, t.age, t.term, units, rates.upper);
     let other = credit::credit_over(upper_years, marks);
-    only.combine(other, t.months)
+    only.combine(other, t.pnpa_months)
 }
 
 // The credit at a status: nothing when refunded, a lump sum in full.

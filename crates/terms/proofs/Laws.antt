@@ -92,24 +92,24 @@ unfolding tableRate rateFor
 monthly-rate t p monthly = rw (ne-eqb (t .term) 0 (λ z. omega arith))
 
 -- with odd months the upper rate is that of the upper pension age
-pub upper-rate-odd : (t : Terms) → (t .months ≡ 0 → ⊥) → upperRate t ≡ tableRate t (t .years + 1)
+pub upper-rate-odd : (t : Terms) → (t .«pnpa_months» ≡ 0 → ⊥) → upperRate t ≡ tableRate t (t .«pnpa_years» + 1)
 unfolding upperRate
-upper-rate-odd t odd = rw (ne-eqb (t .months) 0 odd)
+upper-rate-odd t odd = rw (ne-eqb (t .«pnpa_months») 0 odd)
 
 -- the needed rates are there where 5 and 6 pass
 
-pub upper-there : (t : Terms) (upper : ℕ) → missingUpper t upper ≡ false → (t .months ≡ 0 → ⊥) → 0 < upper
-upper-there t upper e odd = omega (arith, eqb-false upper 0 (rw (ne-eqb (t .months) 0 odd) at e))
+pub upper-there : (t : Terms) (upper : ℕ) → missingUpper t upper ≡ false → (t .«pnpa_months» ≡ 0 → ⊥) → 0 < upper
+upper-there t upper e odd = omega (arith, eqb-false upper 0 (rw (ne-eqb (t .«pnpa_months») 0 odd) at e))
 
 module _ (t : Terms) (rate : noRate t ≡ false) where
-  pub lower-rate : 0 < tableRate t (t .years)
+  pub lower-rate : 0 < tableRate t (t .«pnpa_years»)
   unfolding noRate
   lower-rate =
-      by-test (eqb (t .term) 0) (λ e. omega (arith, eqb-false (tableRate t (t .years)) 0 (or-false _ _ (rw e at rate) .0)))
-      (λ e. omega (arith, eqb-false (tableRate t (t .years)) 0 (rw e at rate)))
+      by-test (eqb (t .term) 0) (λ e. omega (arith, eqb-false (tableRate t (t .«pnpa_years»)) 0 (or-false _ _ (rw e at rate) .0)))
+      (λ e. omega (arith, eqb-false (tableRate t (t .«pnpa_years»)) 0 (rw e at rate)))
 
-  pub upper-rate : noUpperRate t ≡ false → (t .months ≡ 0 → ⊥) → 0 < tableRate t (t .years + 1)
+  pub upper-rate : noUpperRate t ≡ false → (t .«pnpa_months» ≡ 0 → ⊥) → 0 < tableRate t (t .«pnpa_years» + 1)
   unfolding noRate noUpperRate
   upper-rate upper =
-      by-test (eqb (t .term) 0) (λ e. upper-there t (tableRate t (t .years + 1)) (or-false (eqb (tableRate t (t .years)) 0) _ (rw e at rate) .1))
-      (λ e. upper-there t (tableRate t (t .years + 1)) (rw e at upper))
+      by-test (eqb (t .term) 0) (λ e. upper-there t (tableRate t (t .«pnpa_years» + 1)) (or-false (eqb (tableRate t (t .«pnpa_years»)) 0) _ (rw e at rate) .1))
+      (λ e. upper-there t (tableRate t (t .«pnpa_years» + 1)) (rw e at upper))

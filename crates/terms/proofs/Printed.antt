@@ -41,13 +41,13 @@ module _ (t : Terms) (p : ℕ) where
 
 -- the upper rate is missing just where odd months need it and there is none
 module _ (t : Terms) (upper : ℕ) where
-  pub upper-missing : missingUpper t upper ≡ true → (t .months ≡ 0 → ⊥) × (upper ≡ 0)
+  pub upper-missing : missingUpper t upper ≡ true → (t .«pnpa_months» ≡ 0 → ⊥) × (upper ≡ 0)
   upper-missing e =
-      by-test (eqb (t .months) 0) (λ whole. never (rw whole at e))
-      (λ odd. (eqb-false (t .months) 0 odd, eqb-true upper 0 (rw odd at e)))
+      by-test (eqb (t .«pnpa_months») 0) (λ whole. never (rw whole at e))
+      (λ odd. (eqb-false (t .«pnpa_months») 0 odd, eqb-true upper 0 (rw odd at e)))
 
-  pub missing-upper : (t .months ≡ 0 → ⊥) → upper ≡ 0 → missingUpper t upper ≡ true
-  missing-upper odd e = rw (ne-eqb (t .months) 0 odd, eq-eqb upper 0 e)
+  pub missing-upper : (t .«pnpa_months» ≡ 0 → ⊥) → upper ≡ 0 → missingUpper t upper ≡ true
+  missing-upper odd e = rw (ne-eqb (t .«pnpa_months») 0 odd, eq-eqb upper 0 e)
 
 module _ (t : Terms) where
   no-rate-says : noRate t ≡ true → LacksRate t
@@ -59,15 +59,15 @@ module _ (t : Terms) where
       let some = rw lump at e in
       inl (
         z,
-        by-test (eqb (tableRate t (t .years)) 0)
-            (λ lower. (t .years, (inl refl, zero-lump t (t .years) z (eqb-true _ 0 lower))))
+        by-test (eqb (tableRate t (t .«pnpa_years»)) 0)
+            (λ lower. (t .«pnpa_years», (inl refl, zero-lump t (t .«pnpa_years») z (eqb-true _ 0 lower))))
             (λ lower.
             let m = upper-missing t _ (rw lower at some) in
-            (t .years + 1, (inr (refl, m .0), zero-lump t (t .years + 1) z (m .1)))),
+            (t .«pnpa_years» + 1, (inr (refl, m .0), zero-lump t (t .«pnpa_years» + 1) z (m .1)))),
       ))
       (λ monthly.
       let m : 0 < t .term = omega (arith, eqb-false (t .term) 0 monthly) in
-      inr (m, zero-monthly t (t .years) m (eqb-true _ 0 (rw monthly at e))))
+      inr (m, zero-monthly t (t .«pnpa_years») m (eqb-true _ 0 (rw monthly at e))))
 
   says-no-rate : LacksRate t → noRate t ≡ true
   unfolding noRate
@@ -78,10 +78,10 @@ module _ (t : Terms) where
       let there = none-lump t (l .1 .0) z (l .1 .1 .1) in
       rw (eq-eqb (t .term) 0 z)
       (⊎-elim
-      (λ e. rw (eq-eqb (tableRate t (t .years)) 0 (rw e at there)))
-      (λ e. rw (missing-upper t _ (e .1) (rw (e .0) at there)) (or-true (eqb (tableRate t (t .years)) 0)))
+      (λ e. rw (eq-eqb (tableRate t (t .«pnpa_years»)) 0 (rw e at there)))
+      (λ e. rw (missing-upper t _ (e .1) (rw (e .0) at there)) (or-true (eqb (tableRate t (t .«pnpa_years»)) 0)))
       (l .1 .1 .0)))
-      (λ m. rw (ne-eqb (t .term) 0 (λ z. omega (arith, m .0)), eq-eqb (tableRate t (t .years)) 0 (none-monthly t (t .years) (m .0) (m .1))))
+      (λ m. rw (ne-eqb (t .term) 0 (λ z. omega (arith, m .0)), eq-eqb (tableRate t (t .«pnpa_years»)) 0 (none-monthly t (t .«pnpa_years») (m .0) (m .1))))
 
   no-upper-says : noRate t ≡ false → noUpperRate t ≡ true → LacksUpperRate t
   unfolding noUpperRate
@@ -90,17 +90,17 @@ module _ (t : Terms) where
       (λ monthly.
       let m : 0 < t .term = omega (arith, eqb-false (t .term) 0 monthly) in
       let u = upper-missing t _ (rw monthly at e) in
-      let lower = printed (t .option) (t .years) (t .age) (t .term) (rw (monthly-rate t (t .years) m) at (lower-rate t rate)) in
-      (m, (lower, (u .0, zero-monthly t (t .years + 1) m (u .1)))))
+      let lower = printed (t .option) (t .«pnpa_years») (t .age) (t .term) (rw (monthly-rate t (t .«pnpa_years») m) at (lower-rate t rate)) in
+      (m, (lower, (u .0, zero-monthly t (t .«pnpa_years» + 1) m (u .1)))))
 
   says-lower : LacksUpperRate t → noRate t ≡ false
   unfolding noRate
-  says-lower n = rw (ne-eqb (t .term) 0 (λ z. omega (arith, n .0)), some-monthly t (t .years) (n .0) (n .1 .0))
+  says-lower n = rw (ne-eqb (t .term) 0 (λ z. omega (arith, n .0)), some-monthly t (t .«pnpa_years») (n .0) (n .1 .0))
 
   says-no-upper : LacksUpperRate t → noUpperRate t ≡ true
   unfolding noUpperRate
   says-no-upper n =
-      rw (ne-eqb (t .term) 0 (λ z. omega (arith, n .0)), missing-upper t _ (n .1 .1 .0) (none-monthly t (t .years + 1) (n .0) (n .1 .1 .1)))
+      rw (ne-eqb (t .term) 0 (λ z. omega (arith, n .0)), missing-upper t _ (n .1 .1 .0) (none-monthly t (t .«pnpa_years» + 1) (n .0) (n .1 .1 .1)))
 
 -- a test that refuses with a number that the rest of the chain does not give
 refuses-just : (b : Bool) (n rest : ℕ) → (rest ≡ n → ⊥) → pick b n rest ≡ n → b ≡ true

@@ -9,7 +9,7 @@ use Rattle.terms.specs.Rules.{refusalOf}
 
 -- the whole pension ages that are needed: the only or lower one, and with odd months the upper
 abbrev pub Needed : Terms → ℕ → Type 0
-Needed t pensionAge = (pensionAge ≡ t .years) ⊎ ((pensionAge ≡ t .years + 1) × (t .months ≡ 0 → ⊥))
+Needed t pensionAge = (pensionAge ≡ t .«pnpa_years») ⊎ ((pensionAge ≡ t .«pnpa_years» + 1) × (t .«pnpa_months» ≡ 0 → ⊥))
 
 -- what is printed for the terms at a whole pension age: a lump sum, and a monthly rate
 abbrev pub LumpThere : Terms → ℕ → Type 0
@@ -22,12 +22,12 @@ MonthlyThere t pensionAge = Printed (t .option) pensionAge (t .age) (t .term)
 abbrev pub LacksRate : Terms → Type 0
 LacksRate t =
     ((t .term ≡ 0) × ((p : ℕ) × (Needed t p × (LumpThere t p → ⊥))))
-    ⊎ ((0 < t .term) × (MonthlyThere t (t .years) → ⊥))
+    ⊎ ((0 < t .term) × (MonthlyThere t (t .«pnpa_years») → ⊥))
 
 -- 6: the monthly rate of the lower pension age is printed, and that of the upper, which odd months need, is not
 abbrev pub LacksUpperRate : Terms → Type 0
 LacksUpperRate t =
-    (0 < t .term) × (MonthlyThere t (t .years) × ((t .months ≡ 0 → ⊥) × (MonthlyThere t (t .years + 1) → ⊥)))
+    (0 < t .term) × (MonthlyThere t (t .«pnpa_years») × ((t .«pnpa_months» ≡ 0 → ⊥) × (MonthlyThere t (t .«pnpa_years» + 1) → ⊥)))
 
 -- where 1 to 4 pass, 5 and 6 are given just there
 pub record RatesTold (t : Terms) (existing : ℕ) : Type 0 where

@@ -17,4 +17,4 @@ tableRate t pensionAge = rateFor (t .option) pensionAge (t .age) (t .term)
 
 -- that at the upper pension age, which odd months need; 0 at a whole pension age
 unfoldable pub upperRate : Terms → ℕ
-upperRate t = pick (eqb (t .months) 0) 0 (tableRate t (t .years + 1))
+upperRate t = pick (eqb (t .«pnpa_months») 0) 0 (tableRate t (t .«pnpa_years» + 1))

@@ -14,7 +14,7 @@ wrongOption t = not (eqb (t .option) 1 || eqb (t .option) 2)
 
 -- 2: months that are no months of a year, or a pension age below 65 or above 68 years
 unfoldable pub wrongPensionAge : Terms → Bool
-wrongPensionAge t = ltb 11 (t .months) || (ltb (t .years) 65 || ltb (68 * 12) (t .years * 12 + t .months))
+wrongPensionAge t = ltb 11 (t .«pnpa_months») || (ltb (t .«pnpa_years») 65 || ltb (68 * 12) (t .«pnpa_years» * 12 + t .«pnpa_months»))
 
 -- 3: more than twenty years
 unfoldable pub wrongTerm : Terms → Bool
@@ -26,18 +26,18 @@ wrongPayer t = not (eqb (t .payer) 1 || eqb (t .payer) 2) || (eqb (t .payer) 2 &
 
 -- the rate of the upper pension age, which odd months need, is none
 abbrev pub missingUpper : Terms → ℕ → Bool
-missingUpper t upper = not (eqb (t .months) 0) && eqb upper 0
+missingUpper t upper = not (eqb (t .«pnpa_months») 0) && eqb upper 0
 
 -- 5: for a lump sum, nothing in Table S at a needed pension age; else nothing in the only or lower monthly table
 unfoldable pub noRate : Terms → Bool
 noRate t =
     pick (eqb (t .term) 0)
-    (eqb (tableRate t (t .years)) 0 || missingUpper t (tableRate t (t .years + 1)))
-    (eqb (tableRate t (t .years)) 0)
+    (eqb (tableRate t (t .«pnpa_years»)) 0 || missingUpper t (tableRate t (t .«pnpa_years» + 1)))
+    (eqb (tableRate t (t .«pnpa_years»)) 0)
 
 -- 6: nothing in the upper monthly table, which odd months need
 unfoldable pub noUpperRate : Terms → Bool
-noUpperRate t = not (eqb (t .term) 0) && missingUpper t (tableRate t (t .years + 1))
+noUpperRate t = not (eqb (t .term) 0) && missingUpper t (tableRate t (t .«pnpa_years» + 1))
 
 -- 7: less than £250, or not in steps of £250
 unfoldable pub wrongAmount : Terms → Bool

@@ -6,8 +6,8 @@ ghost use Rattle.terms.specs.Rules.{wrongOption, wrongPensionAge, wrongP
 // years of monthly payments or 0 for a lump sum, pounds of pension a year. Any numbers: `election::first_refusal` refuses bad ones.
 pub struct Terms {
     pub age: u32,
-    pub years: u32,
-    pub months: u32,
+    pub pnpa_years: u32,
+    pub pnpa_months: u32,
     pub option: u32,
     pub payer: u32,
     pub term: u32,
@@ -29,13 +29,13 @@ fn wrong_option(t: Terms) -> bool
 fn wrong_pension_age(t: Terms) -> bool
     ensures { λ r. ⌜ r ≡ wrongPensionAge t ⌝ }
 {
-    if 11 < t.months {
+    if 11 < t.pnpa_months {
         return true;
     }
-    if t.years < 65 {
+    if t.pnpa_years < 65 {
         return true;
     }
-    68 * 12 < t.years as u64 * 12 + t.months as u64
+    68 * 12 < t.pnpa_years as u64 * 12 + t.pnpa_months as u64
 }
 
 fn wrong_payer(t: Terms) -> bool

@@ -22,7 +22,7 @@ use Rattle.totals.specs.Total.{creditSum, anyBad, firstBadRecord, totall
 abbrev pub blank : Contract
 blank =
     record {
-      terms = record { age = 0; years = 0; months = 0; option = 0; payer = 0; term = 0; amount = 0 };
+      terms = record { age = 0; «pnpa_years» = 0; «pnpa_months» = 0; option = 0; payer = 0; term = 0; amount = 0 };
       marks = replicate 240 0;
       count = 0;
     }

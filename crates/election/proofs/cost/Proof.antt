@@ -21,9 +21,9 @@ fits amount rate p q =
     omega (arith, mul-le-mul {n₁ = amount / stepPounds} {m₁ = rate} {n₂ = 26} {m₂ = 456000} (omega arith) q)
 
 costs : (t : Terms) {rates : TableRates} → rates ≡ ratesOf t
-    → combine (t .months) (t .amount / stepPounds * rates .lower) (t .amount / stepPounds * rates .upper) ≡ contributionOf t
+    → combine (t .«pnpa_months») (t .amount / stepPounds * rates .lower) (t .amount / stepPounds * rates .upper) ≡ contributionOf t
 unfolding contributionOf contributionIn contributionAt
-costs t e = rw e (combine-upper (t .months) _ _ _ (λ odd. ap (λ (rate : ℕ). t .amount / stepPounds * rate) (upper-rate-odd t odd)))
+costs t e = rw e (combine-upper (t .«pnpa_months») _ _ _ (λ odd. ap (λ (rate : ℕ). t .amount / stepPounds * rate) (upper-rate-odd t odd)))
 
 of-units-requires : tie.Need-of-units-requires
 of-units-requires c κs = search needs
@@ -35,7 +35,7 @@ combine-requires : tie.Need-combine-requires
 combine-requires c κs =
     let a = c .before .before .before .args in
     let p = c .before .before .before .pre in (
-      rw (c .before .of-units .ensures, p .1) (fits (a .t .amount) _ (p .0) (table-rate-most (a .t) (a .t .years))),
+      rw (c .before .of-units .ensures, p .1) (fits (a .t .amount) _ (p .0) (table-rate-most (a .t) (a .t .«pnpa_years»))),
       rw (c .of-units2 .ensures, p .1) (fits (a .t .amount) _ (p .0) (upper-rate-most (a .t))),
     )
 

@@ -16,11 +16,11 @@ use Rattle.election.proofs.price_refusal.Statement.{statement}
 use Rattle.election.proofs.price_refusal.Tie as tie
 
 -- the rate of the upper table matters with odd months alone
-upper-is : (t : Terms) → missingUpper t (upperRate t) ≡ missingUpper t (tableRate t (t .years + 1))
+upper-is : (t : Terms) → missingUpper t (upperRate t) ≡ missingUpper t (tableRate t (t .«pnpa_years» + 1))
 unfolding upperRate
-upper-is t = go (eqb (t .months) 0)
+upper-is t = go (eqb (t .«pnpa_months») 0)
   where
-    go : (b : Bool) → (not b && eqb (pick b 0 (tableRate t (t .years + 1))) 0) ≡ (not b && eqb (tableRate t (t .years + 1)) 0)
+    go : (b : Bool) → (not b && eqb (pick b 0 (tableRate t (t .«pnpa_years» + 1))) 0) ≡ (not b && eqb (tableRate t (t .«pnpa_years» + 1)) 0)
     go true = refl
     go false = refl
 
@@ -39,7 +39,7 @@ decided : (t : Terms) (existing : ℕ) {rates : TableRates} → rates ≡ ratesO
     ≡ pick (eqb (rates .lower) 0) 5
     (pick (missingUpper t (rates .upper)) (pick (eqb (t .term) 0) 5 6) (pick (wrongAmount t) 7 (pick (aboveCap t existing) 8 0)))
 unfolding priceRefusal noRate noUpperRate
-decided t existing e = rw (e, upper-is t) (no-rates (eqb (t .term) 0) (eqb (tableRate t (t .years)) 0) _ _)
+decided t existing e = rw (e, upper-is t) (no-rates (eqb (t .term) 0) (eqb (tableRate t (t .«pnpa_years»)) 0) _ _)
 
 returns : tie.Need-returns
 returns c = rw (decided _ _ (c .before .before .pre), eq-eqb _ _ (c .if1 .taken))

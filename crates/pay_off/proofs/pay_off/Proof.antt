@@ -97,7 +97,7 @@ module _ (t : Terms) (ms : List ℕ) (ageNow increase : ℕ) where
 
 -- what the lookup promises
 looked-up : {t : Terms} {ageNow : ℕ} {sums : TableRates}
-    → (sums .lower ≡ lumpSumNow t ageNow (t .years)) × ((t .months ≡ 0 → ⊥) → sums .upper ≡ lumpSumNow t ageNow (t .years + 1)) → LookedUp t ageNow sums
+    → (sums .lower ≡ lumpSumNow t ageNow (t .«pnpa_years»)) × ((t .«pnpa_months» ≡ 0 → ⊥) → sums .upper ≡ lumpSumNow t ageNow (t .«pnpa_years» + 1)) → LookedUp t ageNow sums
 looked-up told = record { low = told .0; high = told .1 }
 
 examine-requires : tie.Need-examine-requires

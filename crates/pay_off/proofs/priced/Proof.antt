@@ -23,7 +23,7 @@ module _ (t : Terms) (credit : ℕ) {whole rest : PensionPence} (w : whole ≡ p
   left-most a = rw left (omega (arith, a .under-cap))
 
   numbers : {more : PensionPence} {own : ContributionPence} (lower upper increase : ℕ) → more ≡ pension (increasedBy increase (rest .0))
-      → own ≡ contribution (priceOf (more .0) lower upper (t .months))
+      → own ≡ contribution (priceOf (more .0) lower upper (t .«pnpa_months»))
       → _≡_ {A = PayOffNumbers}
       (record { refusal = 0; place = 0; remaining = rest .0; increased = more .0; cost = own .0 })
       (pricedPayOff t credit lower upper increase)

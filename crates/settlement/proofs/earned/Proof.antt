@@ -30,12 +30,12 @@ small : (t : Terms) (ms years : List ℕ) {k : PensionPence} → length ms ≤ 2
     → ((n : ℕ) → getD years n 0 ≤ t .amount / stepPounds * unit) → k ≡ pension (creditOver nearest years ms) → k .0 < 2 ^ 32
 small t ms years few a most k = rw k (credit-fits years ms few (λ n. omega (arith, most n, a .under-cap)))
 
-only-table : (t : Terms) (ms : List ℕ) {k : PensionPence} → t .months ≡ 0 → k ≡ pension (creditIn nearest (purchaseIn t (t .years)) ms)
+only-table : (t : Terms) (ms : List ℕ) {k : PensionPence} → t .«pnpa_months» ≡ 0 → k ≡ pension (creditIn nearest (purchaseIn t (t .«pnpa_years»)) ms)
     → k ≡ pension (creditOf t ms)
-only-table t ms whole e = e ∙ ap pension (sym (credit-combined t ms ∙ combine-none (t .months) _ _ whole))
+only-table t ms whole e = e ∙ ap pension (sym (credit-combined t ms ∙ combine-none (t .«pnpa_months») _ _ whole))
 
-both : (t : Terms) (ms : List ℕ) {k l : PensionPence} → k ≡ pension (creditIn nearest (purchaseIn t (t .years)) ms)
-    → l ≡ pension (creditIn nearest (purchaseIn t (t .years + 1)) ms) → pension (combine (t .months) (k .0) (l .0)) ≡ pension (creditOf t ms)
+both : (t : Terms) (ms : List ℕ) {k l : PensionPence} → k ≡ pension (creditIn nearest (purchaseIn t (t .«pnpa_years»)) ms)
+    → l ≡ pension (creditIn nearest (purchaseIn t (t .«pnpa_years» + 1)) ms) → pension (combine (t .«pnpa_months») (k .0) (l .0)) ≡ pension (creditOf t ms)
 both t ms e f = rw (e, f) (ap pension (sym (credit-combined t ms)))
 
 year-credits-requires : tie.Need-year-credits-requires

@@ -3,7 +3,7 @@
 use mathlib.Core.Path.{ap}
 use borrow.Author.Needs.{needs}
 use Rattle.rounding.specs.Nearest.{blend}
-use Rattle.money.specs.Money.{contribution}
+use Rattle.money.specs.Contribution.{contribution}
 use Rattle.money.proofs.ContributionPence.blend.Statement.{statement}
 use Rattle.money.proofs.ContributionPence.blend.Tie as tie
 

@@ -4,7 +4,7 @@ use mathlib.Core.Path.{sym, ap, _∙_}
 use borrow.Author.Needs.{needs}
 use Rattle.rounding.specs.Nearest.{blend}
 use Rattle.rounding.proofs.Laws.{combine-none, combine-odd}
-use Rattle.money.specs.Money.{contribution}
+use Rattle.money.specs.Contribution.{contribution}
 use Rattle.money.proofs.ContributionPence.combine.Statement.{statement}
 use Rattle.money.proofs.ContributionPence.combine.Tie as tie
 

@@ -1,0 +1,2 @@
+pub mod Scheme
+pub mod Bounds
