@@ -1,2 +1,2 @@
-pub mod Tenths
 pub mod Narrow
+pub mod Tables

@@ -2,10 +2,12 @@
 // pension age, an age and a term.
 ghost use mathlib.Core.Path.{_≡_};
 ghost use Rattle.rates.specs.Personal.{p65, p66, p67, p68};
+ghost use Rattle.scheme.specs.Scheme.{firstAge, printMargin};
 ghost use Rattle.rates.specs.Rates.{cellOf, rateOf};
-ghost use Rattle.lookup.specs.Tenths.{inPence, tableInPence};
+ghost use Rattle.lookup.specs.Narrow.{tenthsInPence};
+ghost use Rattle.lookup.specs.Tables.{tableInPence};
 use lookup::column;
-use lookup::in_pence;
+use lookup::tenths_in_pence;
 use lookup::no_term;
 
 mod tables;
@@ -37,7 +39,7 @@ fn table_68() -> [u16; 1020]
 // The entry for an age and a term. Each table has a function of its own, which is called in one place: there it is inlined, and the
 // constant dissolves into what the arms read. The parameter has the table's number, so that no arm reads like another table's.
 fn entry_65(t65: &[u16; 1020], age: u32, term: u32) -> u16
-    ensures { λ r. ⌜ r ≡ cellOf (now (t65 .entry)) age term ⌝ }
+    ensures { λ r. ⌜ r ≡ cellOf firstAge printMargin (now (t65 .entry)) age term ⌝ }
 {
     match term {
         1 => column(t65, 0, age, term),
@@ -65,7 +67,7 @@ fn entry_65(t65: &[u16; 1020], age: u32, term: u32) -> u16
 }
 
 fn entry_66(t66: &[u16; 1020], age: u32, term: u32) -> u16
-    ensures { λ r. ⌜ r ≡ cellOf (now (t66 .entry)) age term ⌝ }
+    ensures { λ r. ⌜ r ≡ cellOf firstAge printMargin (now (t66 .entry)) age term ⌝ }
 {
     match term {
         1 => column(t66, 0, age, term),
@@ -93,7 +95,7 @@ fn entry_66(t66: &[u16; 1020], age: u32, term: u32) -> u16
 }
 
 fn entry_67(t67: &[u16; 1020], age: u32, term: u32) -> u16
-    ensures { λ r. ⌜ r ≡ cellOf (now (t67 .entry)) age term ⌝ }
+    ensures { λ r. ⌜ r ≡ cellOf firstAge printMargin (now (t67 .entry)) age term ⌝ }
 {
     match term {
         1 => column(t67, 0, age, term),
@@ -121,7 +123,7 @@ fn entry_67(t67: &[u16; 1020], age: u32, term: u32) -> u16
 }
 
 fn entry_68(t68: &[u16; 1020], age: u32, term: u32) -> u16
-    ensures { λ r. ⌜ r ≡ cellOf (now (t68 .entry)) age term ⌝ }
+    ensures { λ r. ⌜ r ≡ cellOf firstAge printMargin (now (t68 .entry)) age term ⌝ }
 {
     match term {
         1 => column(t68, 0, age, term),
@@ -150,7 +152,7 @@ fn entry_68(t68: &[u16; 1020], age: u32, term: u32) -> u16
 
 // The monthly rate in tenths of a pound; 0 where none is printed.
 fn monthly_tenths(pension_age: u32, age: u32, term: u32) -> u16
-    ensures { λ r. ⌜ inPence r ≡ rateOf 1 «pension_age» age term ⌝ }
+    ensures { λ r. ⌜ tenthsInPence r ≡ rateOf 1 «pension_age» age term ⌝ }
 {
     match pension_age {
         65 => entry_65(&table_65(), age, term),
@@ -178,5 +180,5 @@ pub fn monthly_rate(pension_age: u32, age: u32, term: u32) -> u32
     if 20 < term {
         return 0;
     }
-    in_pence(monthly_tenths(pension_age, age, term))
+    tenths_in_pence(monthly_tenths(pension_age, age, term))
 }

@@ -1,6 +1,8 @@
+pub mod Positive
 pub mod Entries
 pub mod Tables
-pub mod Lookups
-mod Monthly
-mod LumpSum
+pub mod Monthly
+pub mod Passing
+pub mod LumpSum
 pub mod Laws
+pub mod Lookups

@@ -40,5 +40,5 @@ ceasedFrom = 12
 abbrev pub firstAge : ℕ
 firstAge = 16
 
-abbrev pub margin : ℕ
-margin = 1
+abbrev pub printMargin : ℕ
+printMargin = 1

@@ -21,8 +21,8 @@ returns-4 c = rate-out _ _ _ _ (λ placed. omega arith)
 monthly-tenths-requires : tie.Need-monthly-tenths-requires
 monthly-tenths-requires c κs = search needs
 
-in-pence-requires : tie.Need-in-pence-requires
-in-pence-requires c κs = search needs
+tenths-in-pence-requires : tie.Need-tenths-in-pence-requires
+tenths-in-pence-requires c κs = search needs
 
 returns-5 : tie.Need-returns-5
 returns-5 c = search needs
@@ -30,4 +30,4 @@ returns-5 c = search needs
 pub monthly-rate-spec : {M : Type 1} → statement M
 monthly-rate-spec =
     tie.close
-    (tie.spec returns returns-2 returns-3 returns-4 monthly-tenths-requires in-pence-requires returns-5)
+    (tie.spec returns returns-2 returns-3 returns-4 monthly-tenths-requires tenths-in-pence-requires returns-5)

@@ -4,48 +4,48 @@ use mathlib.Core.Path.{sym}
 use native.Mathlib.Omega.{arith}
 use borrow.Author.Needs.{needs}
 use Rattle.rates.specs.Rates.{lumpColumn}
-use Rattle.rates.proofs.LumpSum.{chosen, none}
+use Rattle.rates.proofs.LumpSum.{lump-chosen, lump-none}
 use Rattle.rates.proofs.lump_sum_rate.Statement.{statement}
 use Rattle.rates.proofs.lump_sum_rate.Tie as tie
 
 returns : tie.Need-returns
-returns c = sym (none _ _ _ (λ r. omega arith))
+returns c = sym (lump-none _ _ _ (λ r. omega arith))
 
 returns-2 : tie.Need-returns-2
-returns-2 c = sym (none _ _ _ (λ r. omega arith))
+returns-2 c = sym (lump-none _ _ _ (λ r. omega arith))
 
 returns-3 : tie.Need-returns-3
-returns-3 c = sym (none _ _ _ (λ r. omega arith))
+returns-3 c = sym (lump-none _ _ _ (λ r. omega arith))
 
 returns-4 : tie.Need-returns-4
-returns-4 c = sym (none _ _ _ (λ r. omega arith))
+returns-4 c = sym (lump-none _ _ _ (λ r. omega arith))
 
 personal-lump-sums-requires : tie.Need-personal-lump-sums-requires
 personal-lump-sums-requires c κs = search needs
 
-column-requires : tie.Need-column-requires
-column-requires c κs = search needs
+lump-column-requires : tie.Need-lump-column-requires
+lump-column-requires c κs = search needs
 
 dependant-lump-sums-requires : tie.Need-dependant-lump-sums-requires
 dependant-lump-sums-requires c κs = search needs
 
-column-requires-2 : tie.Need-column-requires-2
-column-requires-2 c κs = search needs
+lump-column-requires-2 : tie.Need-lump-column-requires-2
+lump-column-requires-2 c κs = search needs
 
 returns-5 : tie.Need-returns-5
 unfolding lumpColumn
 returns-5 c =
     let b = c .before .before in
-    chosen 1 _ _ (omega arith) (omega arith) (omega arith) (omega arith) (b .before .match .keys1) (b .personal-lump-sums .ensures) (c .column .ensures)
+    lump-chosen 1 _ _ (omega arith) (omega arith) (omega arith) (omega arith) (b .before .match .keys1) (b .personal-lump-sums .ensures) (c .lump-column .ensures)
 
 returns-6 : tie.Need-returns-6
 unfolding lumpColumn
 returns-6 c =
     let b = c .before .before in
-    chosen 2 _ _ (omega arith) (omega arith) (omega arith) (omega arith) (b .before .match .keys2) (b .dependant-lump-sums .ensures) (c .column2 .ensures)
+    lump-chosen 2 _ _ (omega arith) (omega arith) (omega arith) (omega arith) (b .before .match .keys2) (b .dependant-lump-sums .ensures) (c .lump-column2 .ensures)
 
 returns-7 : tie.Need-returns-7
-returns-7 c = sym (none _ _ _ (λ r. omega arith))
+returns-7 c = sym (lump-none _ _ _ (λ r. omega arith))
 
 pub lump-sum-rate-spec : {M : Type 1} → statement M
 lump-sum-rate-spec =
@@ -56,9 +56,9 @@ lump-sum-rate-spec =
     returns-3
     returns-4
     personal-lump-sums-requires
-    column-requires
+    lump-column-requires
     dependant-lump-sums-requires
-    column-requires-2
+    lump-column-requires-2
     returns-5
     returns-6
     returns-7)

@@ -1,12 +1,12 @@
--- `rates::cell` meets its contract: the line is that of the age.
+-- `rates::lump_cell` meets its contract: the line is that of the age.
 -- Assumes nothing.
 use mathlib.Core.Path.{_≡_, ap}
 use Prim.Native.Nat.{_-_}
 use native.Mathlib.Omega.{arith}
 use borrow.Author.Needs.{needs}
 use lib.ListN.{getD}
-use Rattle.rates.proofs.cell.Statement.{statement}
-use Rattle.rates.proofs.cell.Tie as tie
+use Rattle.rates.proofs.lump_cell.Statement.{statement}
+use Rattle.rates.proofs.lump_cell.Tie as tie
 
 mul-result : tie.Need-mul-result
 mul-result c = search needs
@@ -20,5 +20,5 @@ returns c =
     let same : a .line ≡ a .age - 16 = omega arith in
     ap (λ k. getD (a .sums .now) k 0) same
 
-pub cell-spec : {M : Type 1} → statement M
-cell-spec = tie.close (tie.spec mul-result element-copy-out-result returns)
+pub lump-cell-spec : {M : Type 1} → statement M
+lump-cell-spec = tie.close (tie.spec mul-result element-copy-out-result returns)
