@@ -1,4 +1,4 @@
--- A run of paid months at the start of a list of marks.
+-- Not rules: a run of paid months at the start of a list of marks, as the code finds its end.
 -- Assumes nothing.
 use mathlib.Core.List.{List, [], _∷_}
 use Prim.Native.Nat.{ℕ, suc}

@@ -1,10 +1,13 @@
--- `status::status` meets its contract: each return is one case of the definition.
+-- `marks::status` meets its contract: each return is one case of the definition.
 -- Assumes nothing.
 use borrow.Author.Needs.{needs}
 use Rattle.common.proofs.Tests.{tests}
-use Rattle.status.specs.Status.{statusFrom}
-use Rattle.status.proofs.status.Statement.{statement}
-use Rattle.status.proofs.status.Tie as tie
+use Rattle.marks.specs.Reading.{statusFrom}
+use Rattle.marks.proofs.status.Statement.{statement}
+use Rattle.marks.proofs.status.Tie as tie
+
+cast-months : tie.Need-cast-months
+cast-months c = search needs
 
 mul-months : tie.Need-mul-months
 mul-months c = search needs
@@ -54,6 +57,7 @@ pub status-spec : {M : Type 1} → statement M
 status-spec =
     tie.close
     (tie.spec
+    cast-months
     mul-months
     returns
     returns-2

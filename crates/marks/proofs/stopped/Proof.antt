@@ -1,9 +1,9 @@
--- `status::stopped` meets its contract.
+-- `marks::stopped` meets its contract.
 -- Assumes nothing.
 use Rattle.common.proofs.Tests.{tests}
-use Rattle.status.specs.Status.{stoppedOf}
-use Rattle.status.proofs.stopped.Statement.{statement}
-use Rattle.status.proofs.stopped.Tie as tie
+use Rattle.marks.specs.Status.{stoppedOf}
+use Rattle.marks.proofs.stopped.Statement.{statement}
+use Rattle.marks.proofs.stopped.Tie as tie
 
 returns : tie.Need-returns
 unfolding stoppedOf

@@ -1,2 +1,0 @@
-pub mod StatusOf
-pub mod Complete
