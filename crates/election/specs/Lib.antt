@@ -1,2 +1,3 @@
 pub mod Price
-pub mod Told
+pub mod LookedUp
+pub mod TermsAccepted

@@ -2,11 +2,13 @@
 // order; `rates_of`, `first_refusal` and `cost` are small enough to be inlined there. `rate_at` is not, so it takes fields of the terms.
 ghost use mathlib.Core.Path.{_≡_};
 ghost use Prim.Native.Nat.{_≤_};
-ghost use Rattle.money.specs.Money.{contribution};
-ghost use Rattle.money.specs.Limits.{capPounds};
-ghost use Rattle.terms.specs.Rate.{rateFor, upperRate};
-ghost use Rattle.terms.specs.Rules.{missingUpper, wrongAmount, aboveCap, priceRefusal, refusalOf};
-ghost use Rattle.election.specs.Price.{contributionOf, ratesOf};
+ghost use Rattle.scheme.specs.Scheme.{capPounds};
+ghost use Rattle.money.specs.Contribution.{contribution};
+ghost use Rattle.terms.specs.Rate.{rateFor};
+ghost use Rattle.terms.specs.Rules.{missingUpper, wrongAmount, aboveCap, refusalOf};
+ghost use Rattle.terms.specs.Halves.{priceRefusal};
+ghost use Rattle.election.specs.Price.{contributionOf};
+ghost use Rattle.election.specs.LookedUp.{upperRate, ratesOf};
 use money::ContributionPence;
 use money::PensionPence;
 use terms::Terms;
@@ -52,10 +54,10 @@ pub fn rates_of(t: Terms) -> TableRates
 fn wrong_amount(t: Terms) -> bool
     ensures { λ r. ⌜ r ≡ wrongAmount t ⌝ }
 {
-    if t.amount < money::STEP {
+    if t.amount < scheme::STEP {
         return true;
     }
-    t.amount % money::STEP != 0
+    t.amount % scheme::STEP != 0
 }
 
 // Whether the upper pension age is needed and has no rate.
@@ -73,7 +75,7 @@ pub fn missing_upper(t: Terms, upper: u32) -> bool
 fn above_cap(t: Terms, existing: PensionPence) -> bool
     ensures { λ r. ⌜ r ≡ aboveCap t (existing .0) ⌝ }
 {
-    let cap = PensionPence::of_pounds(money::CAP);
+    let cap = PensionPence::of_pounds(scheme::CAP);
     if existing.is_above(cap) {
         return true;
     }
@@ -121,7 +123,7 @@ pub fn cost(t: Terms, rates: TableRates) -> ContributionPence
     requires { ⌜ (t .amount ≤ capPounds) × (rates ≡ ratesOf t) ⌝ }
     ensures { λ r. ⌜ r ≡ contribution (contributionOf t) ⌝ }
 {
-    let units = t.amount / money::STEP;
+    let units = t.amount / scheme::STEP;
     let own = ContributionPence::of_units(units, rates.lower);
     own.combine(ContributionPence::of_units(units, rates.upper), t.pnpa_months)
 }

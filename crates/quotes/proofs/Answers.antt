@@ -10,7 +10,7 @@ use Rattle.common.specs.Choice.{pick}
 use Rattle.common.proofs.Choice.{not-first, chosen-number, both-pass}
 use Rattle.terms.specs.declared.Terms.{Terms}
 use Rattle.terms.specs.Rules.{refusalOf}
-use Rattle.election.proofs.Laws.{accepted-facts, contribution-least}
+use Rattle.election.proofs.Laws.{terms-accepted, contribution-least}
 use Rattle.quotes.specs.Quote.{QuoteNumbers, quoteRefusal, quoteOf}
 
 module _ (t : Terms) (existing last : ℕ) where
@@ -29,4 +29,4 @@ module _ (t : Terms) (existing last : ℕ) where
   unfolding quoteOf
   quote-contribution-least z =
       let none : quoteRefusal t existing last ≡ 0 = sym quote-refusal ∙ z in
-      rw (eq-eqb (quoteRefusal t existing last) 0 none) (contribution-least t existing (accepted-facts t existing (quote-passes none .0)))
+      rw (eq-eqb (quoteRefusal t existing last) 0 none) (contribution-least t existing (terms-accepted t existing (quote-passes none .0)))

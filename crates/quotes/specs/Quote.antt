@@ -20,12 +20,12 @@ pub record QuoteNumbers : Type 0 where
   pub register : ℕ
 
 -- 1 to 8 as the terms are refused; then 9: last number 999,999 or more
-unfoldable pub quoteRefusal : Terms → ℕ → ℕ → ℕ
+unfoldable pub quoteRefusal : Terms → (existing last : ℕ) → ℕ
 quoteRefusal t existing last = firstOf (refusalOf t existing) (pick (leb 999999 last) 9 0)
 
 -- A refusal gives its number, zeros and the register unchanged; success the contribution and the last number plus 1,
 -- which the register then holds.
-unfoldable pub quoteOf : Terms → ℕ → ℕ → QuoteNumbers
+unfoldable pub quoteOf : Terms → (existing last : ℕ) → QuoteNumbers
 quoteOf t existing last =
     pick (eqb (quoteRefusal t existing last) 0)
     (record { refusal = 0; contribution = contributionOf t; next = last + 1; register = last + 1 })
@@ -36,10 +36,10 @@ abbrev pub answerNumbers : QuoteAnswer → ℕ → QuoteNumbers
 answerNumbers (Refused n) register = record { refusal = n; contribution = 0; next = 0; register = register }
 answerNumbers (Made c n) register = record { refusal = 0; contribution = c .0; next = n; register = register }
 
-abbrev pub numbersOf : Quoted → QuoteNumbers
-numbersOf q = answerNumbers (q .answer) (q .register .last)
+abbrev pub numbersOfQuote : Quoted → QuoteNumbers
+numbersOfQuote q = answerNumbers (q .answer) (q .register .last)
 
 -- whether an answer is a refusal
-abbrev pub isRefused : QuoteAnswer → Bool
-isRefused (Refused n) = true
-isRefused (Made c n) = false
+abbrev pub quoteIsRefused : QuoteAnswer → Bool
+quoteIsRefused (Refused n) = true
+quoteIsRefused (Made c n) = false

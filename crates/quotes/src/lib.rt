@@ -1,7 +1,7 @@
 // Quotes with their numbers, and how much more pension the cap lets a member buy.
 ghost use mathlib.Core.Path.{_≡_};
 ghost use lib.Dec.{ltb};
-ghost use Rattle.quotes.specs.Quote.{quoteOf, numbersOf, isRefused};
+ghost use Rattle.quotes.specs.Quote.{quoteOf, numbersOfQuote, quoteIsRefused};
 ghost use Rattle.quotes.specs.Cap.{capDecisionOf, GreatestUnderCap};
 use money::ContributionPence;
 use money::PensionPence;
@@ -29,7 +29,7 @@ pub struct Quoted {
 // The last number of a register that is full.
 pub const FULL: u32 = 999999;
 
-fn refuse(n: u32, register: Register) -> Quoted
+fn refused_quote(n: u32, register: Register) -> Quoted
     ensures { λ r. ⌜ r ≡ record { answer = QuoteAnswer.Refused n; register = register } ⌝ }
 {
     Quoted {
@@ -40,16 +40,16 @@ fn refuse(n: u32, register: Register) -> Quoted
 
 // The contribution and the next number; or the first of the refusals 1 to 9, and the register as it was.
 pub fn quote(t: Terms, existing: PensionPence, register: Register) -> Quoted
-    ensures is { λ r. ⌜ numbersOf r ≡ quoteOf t (existing .0) (register .last) ⌝ }
-    ensures refused { λ r. ⌜ isRefused (r .answer) ≡ ltb 0 (quoteOf t (existing .0) (register .last) .refusal) ⌝ }
+    ensures is { λ r. ⌜ numbersOfQuote r ≡ quoteOf t (existing .0) (register .last) ⌝ }
+    ensures refused { λ r. ⌜ quoteIsRefused (r .answer) ≡ ltb 0 (quoteOf t (existing .0) (register .last) .refusal) ⌝ }
 {
     let rates = election::rates_of(t);
     let refusal = election::first_refusal(t, rates, existing);
     if refusal != 0 {
-        return refuse(refusal, register);
+        return refused_quote(refusal, register);
     }
     if FULL <= register.last {
-        return refuse(9, register);
+        return refused_quote(9, register);
     }
     let contribution = election::cost(t, rates);
     let number = register.last + 1;
@@ -67,7 +67,7 @@ pub fn cap_decision(existing: PensionPence) -> u32
     ensures is { λ r. ⌜ r ≡ capDecisionOf (existing .0) ⌝ }
     ensures greatest { λ r. ⌜ GreatestUnderCap (existing .0) r ⌝ }
 {
-    let left = PensionPence::of_pounds(money::CAP).less(existing);
-    let steps = left.whole_steps(PensionPence::of_pounds(money::STEP));
-    (steps * money::STEP as u64) as u32
+    let left = PensionPence::of_pounds(scheme::CAP).less(existing);
+    let steps = left.whole_steps(PensionPence::of_pounds(scheme::STEP));
+    (steps * scheme::STEP as u64) as u32
 }

@@ -1,27 +1,29 @@
 -- What callers use of the refusals without opening them: what passes, and which half of the chain decides.
 -- Assumes nothing.
-use mathlib.Core.Bool.{Bool, false}
-use mathlib.Core.Path.{_≡_}
+use mathlib.Core.Bool.{Bool, true, false}
+use mathlib.Core.Path.{_≡_, refl, sym, _∙_}
 use Prim.Native.Nat.{ℕ, _+_, _≤_, _<_}
 use native.Mathlib.Omega.{arith}
 use lib.Dec.{eqb}
 use borrow.Author.Tests.{eq-eqb, ne-eqb, eqb-false}
-use Rattle.common.specs.Choice.{pick}
+use Rattle.common.specs.Choice.{pick, firstOf}
 use Rattle.common.proofs.Choice.{either, not-first, first-refuses, first-passes, both-pass}
 use Rattle.common.proofs.Tests.{by-test, or-false}
+use Rattle.scheme.specs.Bounds.{lastOfTerms}
 use Rattle.rates.specs.Rates.{rateOf, lumpRateOf}
 use Rattle.terms.specs.declared.Terms.{Terms}
-use Rattle.terms.specs.Rate.{rateFor, tableRate, upperRate}
+use Rattle.terms.specs.Rate.{rateFor, tableRate}
 use Rattle.terms.specs.Rules.{wrongOption, wrongPensionAge, wrongTerm, wrongPayer, missingUpper, noRate, noUpperRate, wrongAmount, aboveCap}
-use Rattle.terms.specs.Rules.{termsRefusal, priceRefusal, refusalOf}
-use Rattle.terms.specs.Told.{TermsPass}
+use Rattle.terms.specs.Rules.{refusalOf}
+use Rattle.terms.specs.Printed.{FirstFourPass}
+use Rattle.terms.specs.Halves.{termsRefusal, priceRefusal}
 
 -- a chain gives 0 only where its first test fails and the rest gives 0
 passed : (b : Bool) (n rest : ℕ) → 0 < n → pick b n rest ≡ 0 → (b ≡ false) × (rest ≡ 0)
 passed b n rest p = not-first (λ x. x ≡ 0) b n rest (λ z. omega arith)
 
 -- the rules before the rates pass
-pub terms-rules-pass : (t : Terms) → termsRefusal t ≡ 0 → TermsPass t
+pub terms-rules-pass : (t : Terms) → termsRefusal t ≡ 0 → FirstFourPass t
 unfolding termsRefusal
 terms-rules-pass t z =
     let r1 = passed (wrongOption t) 1 _ (omega arith) z in
@@ -46,41 +48,46 @@ price-rules-pass t existing z =
     let r8 = passed (aboveCap t existing) 8 0 (omega arith) (r7 .1) in
     record { rate = r5 .0; upper = r6 .0; amount = r7 .0; cap = r8 .0 }
 
--- the two halves of the chain
+-- and the other way round
+pub first-four-pass : (t : Terms) → FirstFourPass t → termsRefusal t ≡ 0
+unfolding termsRefusal
+first-four-pass t p = rw (p .option, p .pension-age, p .term, p .payer)
+
+-- the chain is the first half, and where that passes the second
+joined : (a b c d : Bool) (rest : ℕ)
+    → pick a 1 (pick b 2 (pick c 3 (pick d 4 rest))) ≡ firstOf (pick a 1 (pick b 2 (pick c 3 (pick d 4 0)))) rest
+joined true b c d rest = refl
+joined false true c d rest = refl
+joined false false true d rest = refl
+joined false false false true rest = refl
+joined false false false false rest = refl
+
 module _ (t : Terms) (existing : ℕ) where
+  halves : refusalOf t existing ≡ firstOf (termsRefusal t) (priceRefusal t existing)
+  unfolding refusalOf termsRefusal priceRefusal
+  halves = joined (wrongOption t) (wrongPensionAge t) (wrongTerm t) (wrongPayer t) _
+
   pub terms-decide : (termsRefusal t ≡ 0 → ⊥) → refusalOf t existing ≡ termsRefusal t
-  unfolding refusalOf
-  terms-decide = first-refuses (termsRefusal t) (priceRefusal t existing)
+  terms-decide h = halves ∙ first-refuses (termsRefusal t) (priceRefusal t existing) h
 
   pub price-decides : termsRefusal t ≡ 0 → refusalOf t existing ≡ priceRefusal t existing
-  unfolding refusalOf
-  price-decides = first-passes (termsRefusal t) (priceRefusal t existing)
+  price-decides h = halves ∙ first-passes (termsRefusal t) (priceRefusal t existing) h
 
   pub none-refuses : refusalOf t existing ≡ 0 → (termsRefusal t ≡ 0) × (priceRefusal t existing ≡ 0)
-  unfolding refusalOf
-  none-refuses = both-pass (termsRefusal t) (priceRefusal t existing)
+  none-refuses z = both-pass (termsRefusal t) (priceRefusal t existing) (sym halves ∙ z)
 
--- the greatest refusals of each half, and of the whole
-pub terms-refusal-most : (t : Terms) → termsRefusal t ≤ 4
-unfolding termsRefusal
-terms-refusal-most t =
-    let Most : ℕ → Type 0 = λ n. n ≤ 4 in
-    either Most (wrongOption t) (omega arith)
-    (either Most (wrongPensionAge t) (omega arith)
-    (either Most (wrongTerm t) (omega arith) (either Most (wrongPayer t) (omega arith) (omega arith))))
-
-pub price-refusal-most : (t : Terms) (existing : ℕ) → priceRefusal t existing ≤ 8
-unfolding priceRefusal
-price-refusal-most t existing =
-    let Most : ℕ → Type 0 = λ n. n ≤ 8 in
-    either Most (noRate t) (omega arith)
-    (either Most (noUpperRate t) (omega arith)
-    (either Most (wrongAmount t) (omega arith) (either Most (aboveCap t existing) (omega arith) (omega arith))))
-
-pub refusal-most : (t : Terms) (existing : ℕ) → refusalOf t existing ≤ 8
+-- the greatest refusal
+pub refusal-most : (t : Terms) (existing : ℕ) → refusalOf t existing ≤ lastOfTerms
 unfolding refusalOf
 refusal-most t existing =
-    either (λ n. n ≤ 8) (eqb (termsRefusal t) 0) (price-refusal-most t existing) (omega (arith, terms-refusal-most t))
+    let Most : ℕ → Type 0 = λ n. n ≤ lastOfTerms in
+    either Most (wrongOption t) (omega arith)
+    (either Most (wrongPensionAge t) (omega arith)
+    (either Most (wrongTerm t) (omega arith)
+    (either Most (wrongPayer t) (omega arith)
+    (either Most (noRate t) (omega arith)
+    (either Most (noUpperRate t) (omega arith)
+    (either Most (wrongAmount t) (omega arith) (either Most (aboveCap t existing) (omega arith) (omega arith))))))))
 
 -- the rate of a whole pension age: of Table S for a lump sum, else of the monthly table
 pub lump-rate : (t : Terms) (p : ℕ) → t .term ≡ 0 → tableRate t p ≡ lumpRateOf (t .option) p (t .age)
@@ -90,11 +97,6 @@ lump-rate t p z = rw (eq-eqb (t .term) 0 z)
 pub monthly-rate : (t : Terms) (p : ℕ) → 0 < t .term → tableRate t p ≡ rateOf (t .option) p (t .age) (t .term)
 unfolding tableRate rateFor
 monthly-rate t p monthly = rw (ne-eqb (t .term) 0 (λ z. omega arith))
-
--- with odd months the upper rate is that of the upper pension age
-pub upper-rate-odd : (t : Terms) → (t .«pnpa_months» ≡ 0 → ⊥) → upperRate t ≡ tableRate t (t .«pnpa_years» + 1)
-unfolding upperRate
-upper-rate-odd t odd = rw (ne-eqb (t .«pnpa_months») 0 odd)
 
 -- the needed rates are there where 5 and 6 pass
 

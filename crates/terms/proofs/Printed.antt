@@ -10,17 +10,18 @@ use borrow.Author.Tests.{eq-eqb, ne-eqb, eqb-true, eqb-false}
 use Rattle.common.specs.Choice.{pick}
 use Rattle.common.proofs.Choice.{either}
 use Rattle.common.proofs.Tests.{by-test, never, or-true}
-use Rattle.rates.proofs.Laws.{printed, shown, lump-shown, lump-none}
+use Rattle.rates.proofs.Laws.{rate-printed, rate-shown, lump-shown, lump-none}
 use Rattle.terms.specs.declared.Terms.{Terms}
 use Rattle.terms.specs.Rate.{tableRate}
-use Rattle.terms.specs.Rules.{missingUpper, noRate, noUpperRate, wrongAmount, aboveCap, termsRefusal, priceRefusal, refusalOf}
-use Rattle.terms.specs.Printed.{LumpThere, MonthlyThere, LacksRate, LacksUpperRate, RatesTold}
-use Rattle.terms.proofs.Laws.{price-decides, lump-rate, monthly-rate, lower-rate}
+use Rattle.terms.specs.Rules.{missingUpper, noRate, noUpperRate, wrongAmount, aboveCap, refusalOf}
+use Rattle.terms.specs.Halves.{priceRefusal}
+use Rattle.terms.specs.Printed.{LumpThere, MonthlyThere, LacksRate, LacksUpperRate, FirstFourPass, RatesTold}
+use Rattle.terms.proofs.Laws.{first-four-pass, price-decides, lump-rate, monthly-rate, lower-rate}
 
 -- a number that cannot be above 0 is 0
-none : (n : ℕ) → (0 < n → ⊥) → n ≡ 0
-none zero h = refl
-none (suc n) h = absurd (h (omega arith))
+not-above : (n : ℕ) → (0 < n → ⊥) → n ≡ 0
+not-above zero h = refl
+not-above (suc n) h = absurd (h (omega arith))
 
 -- a rate is 0 just where nothing is printed
 module _ (t : Terms) (p : ℕ) where
@@ -31,10 +32,10 @@ module _ (t : Terms) (p : ℕ) where
   none-lump z no-lump = lump-rate t p z ∙ lump-none (t .option) p (t .age) no-lump
 
   zero-monthly : 0 < t .term → tableRate t p ≡ 0 → MonthlyThere t p → ⊥
-  zero-monthly m e there = omega (arith, monthly-rate t p m, shown (t .option) p (t .age) (t .term) there)
+  zero-monthly m e there = omega (arith, monthly-rate t p m, rate-shown (t .option) p (t .age) (t .term) there)
 
   none-monthly : 0 < t .term → (MonthlyThere t p → ⊥) → tableRate t p ≡ 0
-  none-monthly m no-rate = monthly-rate t p m ∙ none _ (λ h. no-rate (printed (t .option) p (t .age) (t .term) h))
+  none-monthly m no-rate = monthly-rate t p m ∙ not-above _ (λ h. no-rate (rate-printed (t .option) p (t .age) (t .term) h))
 
   some-monthly : 0 < t .term → MonthlyThere t p → eqb (tableRate t p) 0 ≡ false
   some-monthly m there = ne-eqb (tableRate t p) 0 (λ e. zero-monthly m e there)
@@ -90,7 +91,7 @@ module _ (t : Terms) where
       (λ monthly.
       let m : 0 < t .term = omega (arith, eqb-false (t .term) 0 monthly) in
       let u = upper-missing t _ (rw monthly at e) in
-      let lower = printed (t .option) (t .«pnpa_years») (t .age) (t .term) (rw (monthly-rate t (t .«pnpa_years») m) at (lower-rate t rate)) in
+      let lower = rate-printed (t .option) (t .«pnpa_years») (t .age) (t .term) (rw (monthly-rate t (t .«pnpa_years») m) at (lower-rate t rate)) in
       (m, (lower, (u .0, zero-monthly t (t .«pnpa_years» + 1) m (u .1)))))
 
   says-lower : LacksUpperRate t → noRate t ≡ false
@@ -121,10 +122,10 @@ module _ (t : Terms) (existing : ℕ) where
   five-other : pick (noUpperRate t) 6 after-six ≡ 5 → ⊥
   five-other = either (λ n. n ≡ 5 → ⊥) (noUpperRate t) (λ e. omega arith) (six-other .0)
 
-  pub rates-told : termsRefusal t ≡ 0 → RatesTold t existing
+  pub rates-told : FirstFourPass t → RatesTold t existing
   unfolding priceRefusal
   rates-told pass =
-      let whole = price-decides t existing pass in
+      let whole = price-decides t existing (first-four-pass t pass) in
       record {
         five = λ e. no-rate-says t (refuses-just (noRate t) 5 _ five-other (sym whole ∙ e));
         just-five = λ n. whole ∙ rw (says-no-rate t n);

@@ -1,8 +1,10 @@
 // The terms of an election, and the rules on them that need no rate.
 ghost use mathlib.Core.Path.{_≡_};
-ghost use Rattle.terms.specs.Rules.{wrongOption, wrongPensionAge, wrongPayer, termsRefusal};
+ghost use Rattle.terms.specs.Rules.{wrongOption, wrongPensionAge, wrongPayer};
+ghost use Rattle.terms.specs.Halves.{termsRefusal};
+use common::MONTHS_IN_YEAR;
 
-// Age in whole years, pension age in years and months, 1 personal or 2 with dependant's pension, 1 member or 2 employer,
+// Age in whole years, pension age (PNPA) in years and months, 1 personal or 2 with dependant's pension, 1 member or 2 employer,
 // years of monthly payments or 0 for a lump sum, pounds of pension a year. Any numbers: `election::first_refusal` refuses bad ones.
 pub struct Terms {
     pub age: u32,
@@ -29,13 +31,14 @@ fn wrong_option(t: Terms) -> bool
 fn wrong_pension_age(t: Terms) -> bool
     ensures { λ r. ⌜ r ≡ wrongPensionAge t ⌝ }
 {
-    if 11 < t.pnpa_months {
+    if MONTHS_IN_YEAR <= t.pnpa_months {
         return true;
     }
     if t.pnpa_years < 65 {
         return true;
     }
-    68 * 12 < t.pnpa_years as u64 * 12 + t.pnpa_months as u64
+    let year = MONTHS_IN_YEAR as u64;
+    68 * year < t.pnpa_years as u64 * year + t.pnpa_months as u64
 }
 
 fn wrong_payer(t: Terms) -> bool
@@ -60,7 +63,7 @@ pub fn terms_refusal(t: Terms) -> u32
     if wrong_pension_age(t) {
         return 2;
     }
-    if 20 < t.term {
+    if scheme::LONGEST_TERM < t.term {
         return 3;
     }
     if wrong_payer(t) {

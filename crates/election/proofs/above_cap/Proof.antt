@@ -8,7 +8,7 @@ use lib.Dec.{ltb}
 use borrow.Author.Needs.{needs}
 use borrow.Author.Tests.{lt-ltb, ltb-true, ltb-false}
 use Rattle.common.proofs.Tests.{same-ltb}
-use Rattle.money.specs.Limits.{capPence}
+use Rattle.scheme.specs.Scheme.{capPence}
 use Rattle.terms.specs.Rules.{aboveCap}
 use Rattle.election.proofs.above_cap.Statement.{statement}
 use Rattle.election.proofs.above_cap.Tie as tie

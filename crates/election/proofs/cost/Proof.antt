@@ -5,20 +5,21 @@ use Prim.Native.Nat.{ℕ, _*_, _/_, _≤_, _<_, _^_}
 use native.Mathlib.Nat.{mul-le-mul}
 use native.Mathlib.Omega.{arith}
 use borrow.Author.Needs.{needs}
-use Rattle.money.specs.Limits.{stepPounds, capPounds}
+use Rattle.scheme.specs.Scheme.{stepPounds, capPounds}
+use Rattle.scheme.specs.Bounds.{mostLumpSumRate, mostSteps}
 use Rattle.rounding.specs.Nearest.{combine}
 use Rattle.rounding.proofs.Laws.{combine-upper}
 use Rattle.terms.specs.declared.Terms.{Terms}
-use Rattle.terms.proofs.Laws.{upper-rate-odd}
 use Rattle.election.specs.declared.TableRates.{TableRates}
-use Rattle.election.specs.Price.{contributionAt, contributionIn, contributionOf, ratesOf}
-use Rattle.election.proofs.Laws.{table-rate-most, upper-rate-most}
+use Rattle.election.specs.Price.{contributionAt, contributionIn, contributionOf}
+use Rattle.election.specs.LookedUp.{ratesOf}
+use Rattle.election.proofs.Laws.{table-rate-most, upper-rate-most, upper-rate-odd}
 use Rattle.election.proofs.cost.Statement.{statement}
 use Rattle.election.proofs.cost.Tie as tie
 
-fits : (amount rate : ℕ) → amount ≤ capPounds → rate ≤ 456000 → amount / stepPounds * rate < 2 ^ 32
+fits : (amount rate : ℕ) → amount ≤ capPounds → rate ≤ mostLumpSumRate → amount / stepPounds * rate < 2 ^ 32
 fits amount rate p q =
-    omega (arith, mul-le-mul {n₁ = amount / stepPounds} {m₁ = rate} {n₂ = 26} {m₂ = 456000} (omega arith) q)
+    omega (arith, mul-le-mul {n₁ = amount / stepPounds} {m₁ = rate} {n₂ = mostSteps} {m₂ = mostLumpSumRate} (omega arith) q)
 
 costs : (t : Terms) {rates : TableRates} → rates ≡ ratesOf t
     → combine (t .«pnpa_months») (t .amount / stepPounds * rates .lower) (t .amount / stepPounds * rates .upper) ≡ contributionOf t

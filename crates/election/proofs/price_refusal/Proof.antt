@@ -7,11 +7,12 @@ use lib.Dec.{eqb}
 use borrow.Author.Needs.{needs}
 use borrow.Author.Tests.{eq-eqb, ne-eqb}
 use Rattle.common.specs.Choice.{pick}
-use Rattle.terms.specs.Rate.{tableRate, upperRate}
-use Rattle.terms.specs.Rules.{missingUpper, noRate, noUpperRate, wrongAmount, aboveCap, priceRefusal}
+use Rattle.terms.specs.Rate.{tableRate}
+use Rattle.terms.specs.Rules.{missingUpper, noRate, noUpperRate, wrongAmount, aboveCap}
+use Rattle.terms.specs.Halves.{priceRefusal}
 use Rattle.terms.specs.declared.Terms.{Terms}
 use Rattle.election.specs.declared.TableRates.{TableRates}
-use Rattle.election.specs.Price.{ratesOf}
+use Rattle.election.specs.LookedUp.{upperRate, ratesOf}
 use Rattle.election.proofs.price_refusal.Statement.{statement}
 use Rattle.election.proofs.price_refusal.Tie as tie
 

@@ -4,7 +4,8 @@ use mathlib.Core.Path.{sym}
 use native.Mathlib.Omega.{arith}
 use borrow.Author.Needs.{needs}
 use borrow.Author.Tests.{eq-eqb, ne-eqb}
-use Rattle.terms.specs.Rate.{tableRate, upperRate}
+use Rattle.terms.specs.Rate.{tableRate}
+use Rattle.election.specs.LookedUp.{upperRate}
 use Rattle.election.proofs.Laws.{rate-past}
 use Rattle.election.proofs.upper_rate.Statement.{statement}
 use Rattle.election.proofs.upper_rate.Tie as tie

@@ -4,13 +4,13 @@ use mathlib.Core.Path.{_≡_, ap, subst, sym, _∙_}
 use Prim.Native.Nat.{ℕ, _*_, _-_, _/_}
 use native.Mathlib.Omega.{arith}
 use borrow.Author.Needs.{needs}
-use Rattle.money.specs.Limits.{stepPounds, unit, capPence}
+use Rattle.scheme.specs.Scheme.{stepPounds, stepPence, capPence}
 use Rattle.quotes.proofs.Cap.{cap-decision-greatest}
 use Rattle.quotes.specs.Cap.{capDecisionOf, GreatestUnderCap}
 use Rattle.quotes.proofs.cap_decision.Statement.{statement}
 use Rattle.quotes.proofs.cap_decision.Tie as tie
 
-steps : (c : tie.After-whole-steps) → c .whole-steps .result ≡ (capPence - c .before .before .before .before .args .existing .0) / unit
+steps : (c : tie.After-whole-steps) → c .whole-steps .result ≡ (capPence - c .before .before .before .before .args .existing .0) / stepPence
 steps c =
     let less = c .before .before in
     c .whole-steps .ensures ∙ rw (less .less .ensures, c .before .of-pounds2 .ensures, less .before .of-pounds .ensures)

@@ -7,12 +7,12 @@ use native.Mathlib.Omega.{arith}
 use lib.Dec.{ltb}
 use borrow.Author.Needs.{needs}
 use borrow.Author.Tests.{eq-eqb, ne-eqb, le-leb, lt-leb, lt-ltb}
-use Rattle.election.proofs.Laws.{accepted-facts}
+use Rattle.election.proofs.Laws.{terms-accepted}
 use Rattle.election.specs.Price.{contributionOf}
 use Rattle.money.specs.declared.ContributionPence.{ContributionPence}
 use Rattle.terms.specs.Rules.{refusalOf}
 use Rattle.terms.specs.declared.Terms.{Terms}
-use Rattle.quotes.specs.Quote.{QuoteNumbers, quoteRefusal, quoteOf, numbersOf, isRefused}
+use Rattle.quotes.specs.Quote.{QuoteNumbers, quoteRefusal, quoteOf, numbersOfQuote, quoteIsRefused}
 use Rattle.quotes.specs.declared.QuoteAnswer.the-variants.{Refused}
 use Rattle.quotes.specs.declared.Quoted.{Quoted}
 use Rattle.quotes.specs.declared.Register.{Register}
@@ -48,7 +48,7 @@ some-refusal n = ltb 0 (n .refusal)
 
 -- a refusal above 0 is one
 refuses : (n : ℕ) (register : Register) {q : Quoted} → q ≡ record { answer = Refused n; register = register } → (n ≡ 0 → ⊥)
-    → isRefused (q .answer) ≡ some-refusal (numbersOf q)
+    → quoteIsRefused (q .answer) ≡ some-refusal (numbersOfQuote q)
 refuses n register e some = rw (e, lt-ltb 0 n (omega (arith, some)))
 
 rates-of-requires : tie.Need-rates-of-requires
@@ -57,31 +57,31 @@ rates-of-requires c κs = search needs
 first-refusal-requires : tie.Need-first-refusal-requires
 first-refusal-requires c κs = c .rates-of .ensures
 
-refuse-requires : tie.Need-refuse-requires
-refuse-requires c κs = search needs
+refused-quote-requires : tie.Need-refused-quote-requires
+refused-quote-requires c κs = search needs
 
 returns : tie.Need-returns
 returns c =
     let first = c .before .before .first-refusal .ensures in
     let some = c .before .if1 .taken in
-    let is = ap numbersOf (c .refuse .ensures) ∙ refused _ _ _ _ (first ∙ sym (by-terms _ _ _ (λ z. some (first ∙ z)))) some in
-    (is, refuses _ _ (c .refuse .ensures) some ∙ ap some-refusal is)
+    let is = ap numbersOfQuote (c .refused-quote .ensures) ∙ refused _ _ _ _ (first ∙ sym (by-terms _ _ _ (λ z. some (first ∙ z)))) some in
+    (is, refuses _ _ (c .refused-quote .ensures) some ∙ ap some-refusal is)
 
-refuse-requires-2 : tie.Need-refuse-requires-2
-refuse-requires-2 c κs = search needs
+refused-quote-requires-2 : tie.Need-refused-quote-requires-2
+refused-quote-requires-2 c κs = search needs
 
 returns-2 : tie.Need-returns-2
 returns-2 c =
     let b = c .before .before .before in
     let pass = sym (b .before .first-refusal .ensures) ∙ b .if1 .left in
-    let is = ap numbersOf (c .refuse2 .ensures) ∙ refused _ _ _ _ (sym (full _ _ _ pass (c .before .if2 .taken))) (λ z. omega arith) in
-    (is, refuses _ _ (c .refuse2 .ensures) (λ z. omega arith) ∙ ap some-refusal is)
+    let is = ap numbersOfQuote (c .refused-quote2 .ensures) ∙ refused _ _ _ _ (sym (full _ _ _ pass (c .before .if2 .taken))) (λ z. omega arith) in
+    (is, refuses _ _ (c .refused-quote2 .ensures) (λ z. omega arith) ∙ ap some-refusal is)
 
 cost-requires : tie.Need-cost-requires
 cost-requires c κs =
     let b = c .before .before in
     let pass = sym (b .before .first-refusal .ensures) ∙ b .if1 .left in
-    (omega (arith, accepted-facts _ _ pass .under-cap), b .before .before .rates-of .ensures)
+    (omega (arith, terms-accepted _ _ pass .under-cap), b .before .before .rates-of .ensures)
 
 add-number : tie.Need-add-number
 add-number c = search needs
@@ -99,9 +99,9 @@ quote-spec =
     (tie.spec
     rates-of-requires
     first-refusal-requires
-    refuse-requires
+    refused-quote-requires
     returns
-    refuse-requires-2
+    refused-quote-requires-2
     returns-2
     cost-requires
     add-number

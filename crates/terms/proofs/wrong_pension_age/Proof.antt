@@ -14,6 +14,9 @@ returns-2 : tie.Need-returns-2
 unfolding wrongPensionAge
 returns-2 c = search tests
 
+cast-year : tie.Need-cast-year
+cast-year c = search needs
+
 mul-result : tie.Need-mul-result
 mul-result c = search needs
 
@@ -39,6 +42,7 @@ wrong-pension-age-spec =
     (tie.spec
     returns
     returns-2
+    cast-year
     mul-result
     cast-result
     mul-result-2
