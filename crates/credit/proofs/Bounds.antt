@@ -8,15 +8,15 @@ use lib.ListN.{length, getD}
 use Rattle.rounding.specs.Rounding.{WithinHalf}
 use Rattle.years.specs.Years.{monthValue}
 use Rattle.credit.specs.Runs.{Run, runsIn}
-use Rattle.credit.specs.Credit.{earned, creditOver}
+use Rattle.credit.specs.Credit.{sumOverRuns, creditOver}
 use Rattle.credit.proofs.Months.{by-months, added-most}
 use Rattle.credit.proofs.Order.{Ordered, runs-ordered}
 use Rattle.years.proofs.Years.{month-most}
 
 -- a run earns no more of a value up to u than of one that grows by u in every month
 each-most : (value : ℕ → ℕ) (u : ℕ) → ((month : ℕ) → value month ≤ u) → (rs : List Run) (i : ℕ) → Ordered i rs
-    → earned value rs ≤ earned (λ (month : ℕ). month * u) rs
-unfolding earned Ordered
+    → sumOverRuns value rs ≤ sumOverRuns (λ (month : ℕ). month * u) rs
+unfolding sumOverRuns Ordered
 each-most value u most [] i o = omega arith
 each-most value u most (r ∷ rs) i o =
     omega (arith, most (r .to), mul-le-mul-right u (o .1), each-most value u most rs (suc (r .to)) (o .2))

@@ -12,12 +12,12 @@ use lib.Seq.{drop-cons, drop-drop}
 use Rattle.common.proofs.Tests.{by-test}
 use Rattle.paid_runs.specs.PaidRun.{paidRun}
 use Rattle.paid_runs.proofs.PaidRun.{run-goes-on, run-inside}
-use Rattle.credit.specs.Runs.{_until_, paid, runsFrom, runFrom}
-use Rattle.credit.specs.Credit.{earned}
+use Rattle.credit.specs.Runs.{_until_, paidFlags, runsFrom, runFrom}
+use Rattle.credit.specs.Credit.{sumOverRuns}
 
 -- inside a run: it ends after its 1s, and the other runs come from there on
 run-first : (ms : List ℕ) (a i : ℕ)
-    → runFrom a i (paid ms) ≡ (a until (i + paidRun ms)) ∷ runsFrom (i + paidRun ms) (paid (drop (paidRun ms) ms))
+    → runFrom a i (paidFlags ms) ≡ (a until (i + paidRun ms)) ∷ runsFrom (i + paidRun ms) (paidFlags (drop (paidRun ms) ms))
 unfolding paidRun runsFrom runFrom
 run-first [] a i = let none : i + 0 ≡ i = omega arith in rw none
 run-first (m ∷ ms) a i =
@@ -33,24 +33,24 @@ ends-inside marks i h e is =
 
 module _ (value : ℕ → ℕ) (marks : List ℕ) where
   -- what the runs from index i on earn, where no run is open
-  abbrev pub earnedFrom : ℕ → ℕ
-  earnedFrom i = earned value (runsFrom i (paid (drop i marks)))
+  abbrev pub sumFrom : ℕ → ℕ
+  sumFrom i = sumOverRuns value (runsFrom i (paidFlags (drop i marks)))
 
   module _ (i : ℕ) (h : i < length marks) where
     -- a run begins at a paid month
-    opens : getD marks i 0 ≡ 1 → runsFrom i (paid (drop i marks)) ≡ runFrom i i (paid (drop i marks))
+    opens : getD marks i 0 ≡ 1 → runsFrom i (paidFlags (drop i marks)) ≡ runFrom i i (paidFlags (drop i marks))
     unfolding runsFrom runFrom
     opens e = rw (drop-cons marks i 0 h, eq-eqb _ 1 e)
 
     pub past-run : {end : ℕ} → getD marks i 0 ≡ 1 → end ≡ i + paidRun (drop i marks)
-        → earnedFrom i ≡ (value end - value i) + earnedFrom end
-    unfolding earned
+        → sumFrom i ≡ (value end - value i) + sumFrom end
+    unfolding sumOverRuns
     past-run e is = rw (opens e, run-first (drop i marks) i i, drop-drop (paidRun (drop i marks)) i marks, ← is)
 
-    pub past-other : (getD marks i 0 ≡ 1 → ⊥) → earnedFrom i ≡ earnedFrom (i + 1)
+    pub past-other : (getD marks i 0 ≡ 1 → ⊥) → sumFrom i ≡ sumFrom (i + 1)
     unfolding runsFrom
     past-other e = rw (drop-cons marks i 0 h, ne-eqb _ 1 e, add-one i)
 
-  pub none-left : (i : ℕ) → length marks ≤ i → earnedFrom i ≡ 0
-  unfolding earned runsFrom
-  none-left i h = rw (drop-of-length-le marks h)
+  pub no-runs-left : (i : ℕ) → length marks ≤ i → sumFrom i ≡ 0
+  unfolding sumOverRuns runsFrom
+  no-runs-left i h = rw (drop-of-length-le marks h)

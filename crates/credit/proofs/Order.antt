@@ -6,7 +6,7 @@ use mathlib.Core.Logic.{⊎-elim}
 use mathlib.Core.Path.{_≡_, refl, sym, ap, _∙_}
 use Prim.Native.Nat.{ℕ, suc, _≤_, _<_}
 use native.Mathlib.Omega.{arith}
-use Rattle.credit.specs.Runs.{Run, paid, runsFrom, runFrom, runsIn, InOrder}
+use Rattle.credit.specs.Runs.{Run, paidFlags, runsFrom, runFrom, runsIn, InOrder}
 
 -- in order from index i on, and none of the runs empty
 unfoldable pub Ordered : ℕ → List Run → Type 0
@@ -29,7 +29,7 @@ mutual
 
 pub runs-ordered : (marks : List ℕ) → Ordered 0 (runsIn marks)
 unfolding runsIn
-runs-ordered marks = outside (paid marks) 0 0 (omega arith)
+runs-ordered marks = outside (paidFlags marks) 0 0 (omega arith)
 
 -- so each ends before the next begins
 in-order : (rs : List Run) (i : ℕ) → Ordered i rs → InOrder rs

@@ -11,13 +11,13 @@ use lib.ListN.{length, length-map, take, getD}
 use lib.Seq.{take-suc}
 use Rattle.common.specs.Choice.{pick}
 use Rattle.money.specs.Money.{pension}
-use Rattle.credit.specs.declared.Earned.{Earned}
+use Rattle.credit.specs.declared.CreditSoFar.{CreditSoFar}
 use Rattle.years.specs.Years.{monthValue}
-use Rattle.credit.specs.Runs.{paid, runsFrom, runFrom, runsIn}
-use Rattle.credit.specs.Credit.{earned, creditOver}
-use Rattle.credit.specs.Earned.{nothingYet, creditAt, afterMark, afterMarks}
+use Rattle.credit.specs.Runs.{paidFlags, runsFrom, runFrom, runsIn}
+use Rattle.credit.specs.Credit.{sumOverRuns, creditOver}
+use Rattle.credit.specs.SoFar.{nothingYet, creditAt, afterMark, afterMarks}
 
-pub length-paid : (marks : List ℕ) → length (paid marks) ≡ length marks
+pub length-paid : (marks : List ℕ) → length (paidFlags marks) ≡ length marks
 length-paid marks = length-map marks (λ mark. eqb mark 1)
 
 -- a first mark that is paid, and one that is not
@@ -26,38 +26,38 @@ by-first true f x y g a b = a
 by-first false f x y g a b = b
 
 module _ (round : ℕ → ℕ → ℕ) (years : List ℕ) where
-  afterMarks-append : (e : Earned) (xs ys : List ℕ) → afterMarks round years e (xs ++ ys) ≡ afterMarks round years (afterMarks round years e xs) ys
+  afterMarks-append : (e : CreditSoFar) (xs ys : List ℕ) → afterMarks round years e (xs ++ ys) ≡ afterMarks round years (afterMarks round years e xs) ys
   unfolding afterMarks
   afterMarks-append e [] ys = refl
   afterMarks-append e (x ∷ xs) ys = afterMarks-append (afterMark round years e x) xs ys
 
   -- one mark more is one step more
-  pub one-mark-more : (e : Earned) (marks : List ℕ) (i : ℕ) → i < length marks
+  pub one-mark-more : (e : CreditSoFar) (marks : List ℕ) (i : ℕ) → i < length marks
       → afterMarks round years e (take (i + 1) marks) ≡ afterMark round years (afterMarks round years e (take i marks)) (getD marks i 0)
   unfolding afterMarks
   one-mark-more e marks i h = rw (add-one, take-suc marks i 0, afterMarks-append)
 
   -- outside a run at month i, and inside one that began at month a, where the closed runs earned s
   mutual
-    unfolding creditAt afterMark afterMarks earned runsFrom runFrom
+    unfolding creditAt afterMark afterMarks sumOverRuns runsFrom runFrom
 
     outside : (marks : List ℕ) (s i : ℕ)
         → creditAt round years (afterMarks round years (record { month = i; from = i; sum = pension s }) marks)
-        ≡ s + earned (monthValue round years) (runsFrom i (paid marks))
+        ≡ s + sumOverRuns (monthValue round years) (runsFrom i (paidFlags marks))
     outside [] s i = omega arith
     outside (m ∷ ms) s i =
         by-first (eqb m 1) (λ e. creditAt round years (afterMarks round years e ms)) _ _
-        (λ p. s + earned (monthValue round years) (runsFrom i (p ∷ paid ms)))
+        (λ p. s + sumOverRuns (monthValue round years) (runsFrom i (p ∷ paidFlags ms)))
         (rw add-one (inside ms s i (suc i)))
         (rw add-one (outside ms _ (suc i) ∙ omega arith))
 
     inside : (marks : List ℕ) (s a i : ℕ)
         → creditAt round years (afterMarks round years (record { month = i; from = a; sum = pension s }) marks)
-        ≡ s + earned (monthValue round years) (runFrom a i (paid marks))
+        ≡ s + sumOverRuns (monthValue round years) (runFrom a i (paidFlags marks))
     inside [] s a i = omega arith
     inside (m ∷ ms) s a i =
         by-first (eqb m 1) (λ e. creditAt round years (afterMarks round years e ms)) _ _
-        (λ p. s + earned (monthValue round years) (runFrom a i (p ∷ paid ms)))
+        (λ p. s + sumOverRuns (monthValue round years) (runFrom a i (p ∷ paidFlags ms)))
         (rw add-one (inside ms s a (suc i)))
         (rw add-one (outside ms _ (suc i) ∙ omega arith))
 

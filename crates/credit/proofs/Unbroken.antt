@@ -12,8 +12,8 @@ use lib.Dec.{ltb, eqb}
 use lib.ListN.{getD}
 use Rattle.common.specs.Choice.{pick}
 use Rattle.common.proofs.Tests.{by-test}
-use Rattle.credit.specs.Runs.{Run, _until_, paid, runsIn, Unbroken, InOrder}
-use Rattle.credit.specs.Credit.{earned}
+use Rattle.credit.specs.Runs.{Run, _until_, paidFlags, runsIn, Unbroken, InOrder}
+use Rattle.credit.specs.Credit.{sumOverRuns}
 use Rattle.credit.specs.Months.{growth, addedFrom}
 use Rattle.credit.proofs.Months.{by-months}
 use Rattle.credit.proofs.Order.{runs-ordered, begins, meet, runs-in-order, same-runs}
@@ -38,23 +38,23 @@ one-month (true ∷ ps) k i (suc n) e = omega (arith, one-month ps k (suc i) n (
 one-month (false ∷ ps) k i zero e = none-after ps k (suc i) (omega arith)
 one-month (false ∷ ps) k i (suc n) e = one-month ps k (suc i) n (omega arith)
 
-paid-at : (marks : List ℕ) (k : ℕ) → getD (paid marks) k false ≡ eqb (getD marks k 0) 1
+paid-at : (marks : List ℕ) (k : ℕ) → getD (paidFlags marks) k false ≡ eqb (getD marks k 0) 1
 paid-at [] k = refl
 paid-at (m ∷ marks) zero = refl
 paid-at (m ∷ marks) (suc k) = paid-at marks k
 
 -- so the runs of the marks earn it just where the mark is 1
-month-earned : (marks : List ℕ) (k : ℕ) → earned (past k) (runsIn marks) ≡ pick (eqb (getD marks k 0) 1) 1 0
+month-earned : (marks : List ℕ) (k : ℕ) → sumOverRuns (past k) (runsIn marks) ≡ pick (eqb (getD marks k 0) 1) 1 0
 month-earned marks k =
-    by-months (past k) marks (λ i h. omega arith) ∙ one-month (paid marks) k 0 k (omega arith) ∙ rw (paid-at marks k)
+    by-months (past k) marks (λ i h. omega arith) ∙ one-month (paidFlags marks) k 0 k (omega arith) ∙ rw (paid-at marks k)
 
 -- a run holds a month
 abbrev Holds : ℕ → Run → Type 0
 Holds k r = (r .from ≤ k) × (k < r .to)
 
 -- runs earn that value just where one of them holds month k
-held : (k : ℕ) (rs : List Run) → 0 < earned (past k) rs → (r : Run) × List·Memᴰ r rs × Holds k r
-unfolding earned
+held : (k : ℕ) (rs : List Run) → 0 < sumOverRuns (past k) rs → (r : Run) × List·Memᴰ r rs × Holds k r
+unfolding sumOverRuns
 held k [] h = absurd (omega arith)
 held k (r ∷ rs) h =
     let own = past k (r .to) - past k (r .from) in
@@ -64,8 +64,8 @@ held k (r ∷ rs) h =
     let rest = held k rs (omega (arith, ltb-false 0 own t)) in
     (rest .0, List·Memᴰ·tail (rest .1), rest .2))
 
-earns : (k : ℕ) (rs : List Run) (r : Run) → List·Memᴰ r rs → Holds k r → 0 < earned (past k) rs
-unfolding earned
+earns : (k : ℕ) (rs : List Run) (r : Run) → List·Memᴰ r rs → Holds k r → 0 < sumOverRuns (past k) rs
+unfolding sumOverRuns
 earns k [] r m h = absurd (List·Memᴰ·not-nil m)
 earns k (s ∷ rs) r m h =
     ⊎-elim (λ e. omega (arith, ap (λ (x : Run). x .from) e, ap (λ (x : Run). x .to) e)) (λ n. omega (arith, earns k rs r n h))
@@ -78,7 +78,7 @@ paid-held marks k one = held k (runsIn marks) (rw (month-earned marks k, eq-eqb 
 held-paid : (marks : List ℕ) (k : ℕ) (r : Run) → List·Memᴰ r (runsIn marks) → Holds k r → getD marks k 0 ≡ 1
 held-paid marks k r m h =
     by-test (eqb (getD marks k 0) 1) (λ t. eqb-true _ 1 t)
-    (λ t. let none : earned (past k) (runsIn marks) ≡ 0 = month-earned marks k ∙ rw t in absurd (omega (arith, earns k (runsIn marks) r m h)))
+    (λ t. let none : sumOverRuns (past k) (runsIn marks) ≡ 0 = month-earned marks k ∙ rw t in absurd (omega (arith, earns k (runsIn marks) r m h)))
 
 pub runs-unbroken : (marks : List ℕ) (r : Run) → List·Memᴰ r (runsIn marks) → Unbroken marks r
 runs-unbroken marks r m =

@@ -6,13 +6,13 @@ use Rattle.years.specs.Years.{Purchase, yearCredits, monthValue}
 use Rattle.credit.specs.Runs.{Run, runsIn}
 
 -- each run adds what its value has grown by from its start to its end
-unfoldable pub earned : (ℕ → ℕ) → List Run → ℕ
-earned value [] = 0
-earned value (r ∷ rs) = (value (r .to) - value (r .from)) + earned value rs
+unfoldable pub sumOverRuns : (ℕ → ℕ) → List Run → ℕ
+sumOverRuns value [] = 0
+sumOverRuns value (r ∷ rs) = (value (r .to) - value (r .from)) + sumOverRuns value rs
 
 -- the credit of the marks, by a row of whole-year credits
 unfoldable pub creditOver : (ℕ → ℕ → ℕ) → List ℕ → List ℕ → ℕ
-creditOver round years marks = earned (monthValue round years) (runsIn marks)
+creditOver round years marks = sumOverRuns (monthValue round years) (runsIn marks)
 
 -- one table's credit of the marks
 unfoldable pub creditIn : (ℕ → ℕ → ℕ) → Purchase → List ℕ → ℕ

@@ -1,4 +1,4 @@
 pub mod Runs
 pub mod Credit
 pub mod Months
-pub mod Earned
+pub mod SoFar

@@ -3,7 +3,7 @@
 use mathlib.Core.Bool.{Bool, true, false}
 use mathlib.Core.List.{List, [], _∷_}
 use Prim.Native.Nat.{ℕ, suc, _+_, _-_}
-use Rattle.credit.specs.Runs.{paid}
+use Rattle.credit.specs.Runs.{paidFlags}
 
 -- the value after the month at an index less the value before it
 abbrev pub growth : (ℕ → ℕ) → ℕ → ℕ
@@ -17,4 +17,4 @@ addedFrom figure index (false ∷ ps) = addedFrom figure (suc index) ps
 
 -- the same over all paid months of the marks
 abbrev pub added : (ℕ → ℕ) → List ℕ → ℕ
-added figure marks = addedFrom figure 0 (paid marks)
+added figure marks = addedFrom figure 0 (paidFlags marks)

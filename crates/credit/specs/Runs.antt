@@ -8,8 +8,8 @@ use lib.Dec.{eqb}
 use lib.ListN.{getD}
 
 -- which marks are paid
-abbrev pub paid : List ℕ → List Bool
-paid = map (λ mark. eqb mark 1)
+abbrev pub paidFlags : List ℕ → List Bool
+paidFlags = map (λ mark. eqb mark 1)
 
 -- a paid run: the marks from index `from` up to but not including `to`
 pub record Run : Type 0 where
@@ -34,7 +34,7 @@ unfoldable mutual
 
 -- the paid runs of the marks, in order
 unfoldable pub runsIn : List ℕ → List Run
-runsIn marks = runsFrom 0 (paid marks)
+runsIn marks = runsFrom 0 (paidFlags marks)
 
 -- an unbroken paid run without recursion; proofs/Unbroken.antt shows that `runsIn` has just these
 pub record Unbroken (marks : List ℕ) (r : Run) : Type 0 where
@@ -61,4 +61,4 @@ startsAfter false (true ∷ ps) = suc (startsAfter true ps)
 
 -- k: nothing is paid before the first mark
 unfoldable pub runCount : List ℕ → ℕ
-runCount marks = startsAfter false (paid marks)
+runCount marks = startsAfter false (paidFlags marks)

@@ -4,23 +4,23 @@ ghost use Prim.Native.Nat.{_+_, _*_, _≤_, _<_, _^_};
 ghost use lib.ListN.{length};
 ghost use Rattle.rounding.specs.Nearest.{nearest};
 ghost use Rattle.money.specs.Money.{pension};
-ghost use Rattle.credit.specs.Earned.{nothingYet, creditAt, afterMark, EarnedWithin};
+ghost use Rattle.credit.specs.SoFar.{nothingYet, creditAt, afterMark, SoFarWithin};
 ghost use Rattle.credit.specs.Credit.{creditOver};
 use money::PensionPence;
 
 // What the marks read so far have earned. A paid run is open from month `from`, where that is not `month` itself;
 // `sum` is what the closed runs earned.
-pub struct Earned {
+pub struct CreditSoFar {
     pub month: u32,
     pub from: u32,
     pub sum: PensionPence,
 }
 
 // Before the first mark.
-pub fn nothing_yet() -> Earned
+pub fn nothing_yet() -> CreditSoFar
     ensures { λ r. ⌜ r ≡ nothingYet ⌝ }
 {
-    Earned {
+    CreditSoFar {
         month: 0,
         from: 0,
         sum: PensionPence::none(),
@@ -28,8 +28,8 @@ pub fn nothing_yet() -> Earned
 }
 
 // The credit if no mark follows: an open run ends at the present month.
-pub fn credit_at(e: Earned, years: [u32; 21]) -> PensionPence
-    requires { ⌜ EarnedWithin e ⌝ }
+pub fn credit_at(e: CreditSoFar, years: [u32; 21]) -> PensionPence
+    requires { ⌜ SoFarWithin e ⌝ }
     ensures is { λ r. ⌜ r ≡ pension (creditAt nearest years e) ⌝ }
     ensures small { λ r. ⌜ r .0 ≤ (e .month + 1) * 2 ^ 32 ⌝ }
 {
@@ -41,14 +41,14 @@ pub fn credit_at(e: Earned, years: [u32; 21]) -> PensionPence
 }
 
 // One mark more. The years are looked at only where a run closes.
-pub fn after_mark(e: Earned, years: [u32; 21], mark: u8) -> Earned
-    requires { ⌜ EarnedWithin e ⌝ }
+pub fn after_mark(e: CreditSoFar, years: [u32; 21], mark: u8) -> CreditSoFar
+    requires { ⌜ SoFarWithin e ⌝ }
     ensures is { λ r. ⌜ r ≡ afterMark nearest years e mark ⌝ }
     ensures within { λ r. ⌜ (r .month ≡ e .month + 1) × (r .sum .0 ≤ r .month * 2 ^ 32) ⌝ }
 {
     if mark == 1 {
         let sum = e.sum;
-        return Earned {
+        return CreditSoFar {
             month: e.month + 1,
             from: e.from,
             sum,
@@ -56,7 +56,7 @@ pub fn after_mark(e: Earned, years: [u32; 21], mark: u8) -> Earned
     }
     let sum = credit_at(e, years);
     let month = e.month + 1;
-    Earned {
+    CreditSoFar {
         month,
         from: month,
         sum,

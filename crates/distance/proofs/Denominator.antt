@@ -42,8 +42,8 @@ pub divided-is : {x : Fraction} {n D : ℕ} (k : ℕ) → 0 < k → IsOver x n D
 divided-is k h a = record { same = omega (arith, ap (λ t. t * k) (a .same)); positive = mul-pos (a .positive) h }
 
 -- what is near over the common denominator is near the fraction itself
-pub within : {x : Fraction} {n D : ℕ} (c h : ℕ) → 0 < D → IsOver x n D → Close (2 * (D * c)) (2 * n) (h * D) → Within c x h
-within {x} {n} {D} c h d a near =
+pub close-within : {x : Fraction} {n D : ℕ} (c h : ℕ) → 0 < D → IsOver x n D → Close (2 * (D * c)) (2 * n) (h * D) → Within c x h
+close-within {x} {n} {D} c h d a near =
     record {
       positive = a .positive;
       above = le-of-mul-le-mul-right {k = D} (omega (arith, mul-le-mul-right (x .den) (near .0))) d;

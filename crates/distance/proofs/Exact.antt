@@ -7,13 +7,13 @@ use Prim.Native.Nat.{ℕ, zero, suc, _+_, _*_, _-_, _/_, _≤_, _<_}
 use native.Mathlib.Nat.{mul-le-mul-left, le-of-mul-le-mul-right, div-mul-cancel}
 use native.Mathlib.Omega.{arith}
 use lib.ListN.{length}
-use Rattle.money.specs.Limits.{unit}
+use Rattle.common.specs.Calendar.{monthsInYear}
 use Rattle.years.specs.Years.{Purchase, ownContribution, yearCredit, Falling}
 use Rattle.credit.specs.Months.{addedFrom}
 use Rattle.years.proofs.Years.{year-none, year-within}
 use Rattle.distance.specs.Exact.{exactYear, exactMonth, exactFrom}
 use Rattle.distance.proofs.Denominator.{IsOver, none-is, plus-is, minus-is, divided-is, product, product-positive, divides-product}
-use Rattle.distance.proofs.Line.{line, line-step}
+use Rattle.distance.proofs.Numerator.{numeratorBy, numerator-step}
 
 -- one denominator for all years of a table
 pub denominator : Purchase → ℕ
@@ -40,8 +40,8 @@ module _ (p : Purchase) (falling : Falling p) where
   unfolding share denominator
   share-exact m n a b = omega (arith, ap (λ t. m * t) (div-mul-cancel (p .rate n) (divides-product (p .rate) (p .term) n a b)))
 
-  pub over-exact : (n : ℕ) → 0 < n → n ≤ p .term → exactOver p n * p .rate n ≡ ownContribution p * unit * denominator p
-  over-exact n a b = rw (year-within (share p) p n a b) (share-exact (ownContribution p * unit) n a b)
+  pub over-exact : (n : ℕ) → 0 < n → n ≤ p .term → exactOver p n * p .rate n ≡ ownContribution p * p .unit * denominator p
+  over-exact n a b = rw (year-within (share p) p n a b) (share-exact (ownContribution p * p .unit) n a b)
 
   year-is : (n : ℕ) → n ≤ p .term → IsOver (exactYear p n) (exactOver p n) (denominator p)
   unfolding exactYear
@@ -66,12 +66,12 @@ module _ (p : Purchase) (falling : Falling p) where
       → (exactYear p n) .num * (exactYear p (suc n)) .den ≤ (exactYear p (suc n)) .num * (exactYear p n) .den
   unfolding exactYear
   exact-rises zero h = omega arith
-  exact-rises (suc n) h = mul-le-mul-left (unit * ownContribution p) (falling .falls (suc n) (omega arith) h)
+  exact-rises (suc n) h = mul-le-mul-left (p .unit * ownContribution p) (falling .falls (suc n) (omega arith) h)
 
-  pub over-step : (i : ℕ) → i < 12 * p .term → line (exactOver p) i + monthOver p i ≡ line (exactOver p) (suc i)
-  over-step i h = omega (arith, line-step (exactOver p) i, over-rises (i / 12) (omega arith))
+  pub over-step : (i : ℕ) → i < monthsInYear * p .term → numeratorBy (exactOver p) i + monthOver p i ≡ numeratorBy (exactOver p) (suc i)
+  over-step i h = omega (arith, numerator-step (exactOver p) i, over-rises (i / 12) (omega arith))
 
-  pub exact-is : (ps : List Bool) (i : ℕ) → i + length ps ≤ 12 * p .term
+  pub exact-is : (ps : List Bool) (i : ℕ) → i + length ps ≤ monthsInYear * p .term
       → IsOver (exactFrom p i ps) (addedFrom (monthOver p) i ps) (12 * denominator p)
   unfolding exactFrom exactMonth addedFrom
   exact-is [] i h = none-is (12 * denominator p)

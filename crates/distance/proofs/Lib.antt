@@ -1,4 +1,4 @@
-pub mod Line
+pub mod Numerator
 pub mod Months
 pub mod Runs
 pub mod Near

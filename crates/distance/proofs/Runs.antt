@@ -8,10 +8,11 @@ use native.Mathlib.Omega.{arith}
 use borrow.Author.Tests.{leb-true, leb-false}
 use lib.Dec.{leb}
 use lib.ListN.{length, List·getD-eq-default}
+use Rattle.common.specs.Calendar.{monthsInYear}
 use Rattle.common.proofs.Tests.{by-test}
 use Rattle.rounding.specs.Rounding.{Monotone}
 use Rattle.years.specs.Years.{Purchase, yearCredits, monthValue, Falling}
-use Rattle.credit.specs.Runs.{Run, paid, runsFrom, runFrom, runsIn, startsAfter, runCount}
+use Rattle.credit.specs.Runs.{Run, paidFlags, runsFrom, runFrom, runsIn, startsAfter, runCount}
 use Rattle.credit.proofs.Unbroken.{runs-unbroken}
 use Rattle.distance.proofs.Months.{month-rises}
 
@@ -30,7 +31,7 @@ mutual
 
 pub runs-count : (marks : List ℕ) → runCount marks ≡ length (runsIn marks)
 unfolding runCount runsIn
-runs-count marks = count-outside (paid marks) 0
+runs-count marks = count-outside (paidFlags marks) 0
 
 -- a run starts before it ends, and ends within N months
 abbrev pub Lies : ℕ → Run → Type 0
@@ -47,8 +48,8 @@ run-lies N r marks h m =
 
 -- no run's difference of values is cut off at 0
 pub run-rises : (round : ℕ → ℕ → ℕ) → Monotone round → (p : Purchase) → p .term ≤ 20 → Falling p
-    → (marks : List ℕ) → length marks ≤ 12 * p .term → (r : Run) → List·Memᴰ r (runsIn marks)
+    → (marks : List ℕ) → length marks ≤ monthsInYear * p .term → (r : Run) → List·Memᴰ r (runsIn marks)
     → monthValue round (yearCredits round p) (r .from) ≤ monthValue round (yearCredits round p) (r .to)
 run-rises round mono p short falling marks h r m =
-    let l : Lies (12 * p .term) r = run-lies (12 * p .term) r marks h m in
+    let l : Lies (monthsInYear * p .term) r = run-lies (monthsInYear * p .term) r marks h m in
     month-rises round mono p short falling (r .from) (r .to) (omega arith) (l .1)

@@ -6,10 +6,10 @@ use native.Mathlib.Omega.{arith}
 use Rattle.years.specs.Years.{Purchase, Falling}
 use Rattle.distance.specs.Distance.{Purchases, Sound}
 
-pub tables : (c : Purchases) → Sound c → (Q : Purchase → Type 0)
-    → ((p : Purchase) → p .term ≡ c .lower .term → p .units ≡ c .lower .units → p .term ≤ 20 → Falling p → Q p)
+pub both-tables : (c : Purchases) → Sound c → (Q : Purchase → Type 0)
+    → ((p : Purchase) → p .term ≡ c .lower .term → p .unit ≡ c .lower .unit → p .units ≡ c .lower .units → p .term ≤ 20 → Falling p → Q p)
     → Q (c .lower) × (0 < c .odd → Q (c .upper))
-tables c sound Q each = (
-  each (c .lower) refl refl (sound .term-most) (sound .lower-falls),
-  λ odd. each (c .upper) (sound .same-term) (sound .same-units) (omega (arith, sound .same-term)) (sound .upper-falls odd),
+both-tables c sound Q each = (
+  each (c .lower) refl refl refl (sound .term-most) (sound .lower-falls),
+  λ odd. each (c .upper) (sound .same-term) (sound .same-unit) (sound .same-units) (omega (arith, sound .same-term)) (sound .upper-falls odd),
 )

@@ -1,2 +1,2 @@
 pub mod Years
-pub mod Published
+pub mod Elected

@@ -10,19 +10,19 @@ use native.Mathlib.Omega.{arith}
 use borrow.Author.Tests.{ne-eqb, le-leb, lt-leb, leb-true, leb-false, ltb-true, ltb-false}
 use lib.Dec.{leb, ltb}
 use lib.ListN.{getD, List·getD-eq-default}
+use Rattle.common.specs.Calendar.{monthsInYear}
 use Rattle.common.proofs.Tests.{by-test}
 use Rattle.common.proofs.Table.{length-tabulate, getD-tabulate}
 use Rattle.rounding.specs.Rounding.{WithinHalf, Monotone}
 use Rattle.rounding.proofs.Laws.{round-most, blended-most}
-use Rattle.money.specs.Limits.{unit}
-use Rattle.years.specs.Years.{Purchase, ownContribution, yearCredit, yearCredits, monthValue, Falling}
+use Rattle.years.specs.Years.{Purchase, ownContribution, yearCredit, yearCredits, monthNumerator, monthValue, Falling}
 
 module _ (round : ℕ → ℕ → ℕ) (p : Purchase) where
   pub year-none : yearCredit round p 0 ≡ 0
   unfolding yearCredit
   year-none = refl
 
-  pub year-within : (n : ℕ) → 0 < n → n ≤ p .term → yearCredit round p n ≡ round (ownContribution p * unit) (p .rate n)
+  pub year-within : (n : ℕ) → 0 < n → n ≤ p .term → yearCredit round p n ≡ round (ownContribution p * p .unit) (p .rate n)
   unfolding yearCredit
   year-within n low within = rw (ne-eqb n 0 (λ z. omega arith), le-leb n (p .term) within)
 
@@ -47,8 +47,8 @@ year-or-none p (suc n) =
     (λ h. inl (λ round. year-past round p (suc n) (leb-false (suc n) (p .term) h)))
 
 -- no rate up to the term is below the term's, so none buys more than the amount
-pub own-most : (p : Purchase) → Falling p → (n : ℕ) → 0 < n → n ≤ p .term → ownContribution p * unit ≤ p .units * unit * p .rate n
-own-most p falling n low within = omega (arith, mul-le-mul-left (p .units) (least (p .term) within (le-refl (p .term))))
+pub own-most : (p : Purchase) → Falling p → (n : ℕ) → 0 < n → n ≤ p .term → ownContribution p * p .unit ≤ p .units * p .unit * p .rate n
+own-most p falling n low within = omega (arith, mul-le-mul-left (p .units * p .unit) (least (p .term) within (le-refl (p .term))))
   where
     least : (m : ℕ) → n ≤ m → m ≤ p .term → p .rate m ≤ p .rate n
     least =
@@ -57,27 +57,27 @@ own-most p falling n low within = omega (arith, mul-le-mul-left (p .units) (leas
 
 module _ (round : ℕ → ℕ → ℕ) (half : WithinHalf round) where
   -- no year is worth more than the amount
-  pub year-most : (p : Purchase) → Falling p → (n : ℕ) → yearCredit round p n ≤ p .units * unit
+  pub year-most : (p : Purchase) → Falling p → (n : ℕ) → yearCredit round p n ≤ p .units * p .unit
   year-most p falling n =
       ⊎-elim (λ none. rw (none round) (omega arith))
       (λ h. rw (year-within round p n (h .0) (h .1))
       (round-most round half _ _ _ (falling .positive n (h .0) (h .1)) (own-most p falling n (h .0) (h .1))))
       (year-or-none p n)
 
-  pub years-most : (p : Purchase) → p .term ≤ 20 → Falling p → (n : ℕ) → getD (yearCredits round p) n 0 ≤ p .units * unit
+  pub years-most : (p : Purchase) → p .term ≤ 20 → Falling p → (n : ℕ) → getD (yearCredits round p) n 0 ≤ p .units * p .unit
   years-most p short falling n = rw (row-year round p short n) (year-most p falling n)
 
   -- a bound of all the years bounds the value at a month
   pub month-most : (years : List ℕ) (u : ℕ) → ((n : ℕ) → getD years n 0 ≤ u) → (month : ℕ) → monthValue round years month ≤ u
-  unfolding monthValue
+  unfolding monthValue monthNumerator
   month-most years u most month =
-      blended-most round half (month % 12) _ _ u (omega arith) (most (month / 12)) (most (suc (month / 12)))
+      blended-most round half (month % monthsInYear) _ _ u (omega arith) (most (month / monthsInYear)) (most (suc (month / monthsInYear)))
 
 pub year-rises : (round : ℕ → ℕ → ℕ) → Monotone round → (p : Purchase) → Falling p → (n : ℕ) → n < p .term
     → yearCredit round p n ≤ yearCredit round p (suc n)
 year-rises round mono p falling zero h = rw (year-none round p) (omega arith)
 year-rises round mono p falling (suc n) h =
-    let own = ownContribution p * unit in
+    let own = ownContribution p * p .unit in
     rw (year-within round p (suc n) (omega arith) (omega arith), year-within round p (suc (suc n)) (omega arith) h)
     (mono .keeps own (p .rate (suc n)) own (p .rate (suc (suc n))) (falling .positive (suc n) (omega arith) (omega arith))
     (falling .positive (suc (suc n)) (omega arith) h) (mul-le-mul-left own (falling .falls (suc n) (omega arith) h)))

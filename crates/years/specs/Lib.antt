@@ -1,2 +1,3 @@
 pub mod Years
-pub mod Published
+pub mod Elected
+pub mod Fields

@@ -7,12 +7,14 @@ use lib.Dec.{leb, eqb}
 use lib.ListN.{getD}
 use Rattle.common.specs.Choice.{pick}
 use Rattle.common.specs.Table.{tabulate}
-use Rattle.rounding.specs.Nearest.{blendBy}
-use Rattle.money.specs.Limits.{unit}
+use Rattle.common.specs.Calendar.{monthsInYear}
+use Rattle.rounding.specs.Nearest.{twelfths}
 
--- What one table knows of a monthly contract: its rate in pence at each term, how many times £250 are bought, the term in years.
+-- What one table knows of a monthly contract: its rate in pence at each term, the unit that a rate is for in pence of pension a year, how
+-- many units are bought, the term in years.
 pub record Purchase : Type 0 where
   pub rate : ℕ → ℕ
+  pub unit : ℕ
   pub units : ℕ
   pub term : ℕ
 
@@ -26,14 +28,20 @@ abbrev pub ownContribution : Purchase → ℕ
 ownContribution p = p .units * p .rate (p .term)
 
 -- What the contribution buys in n years, by the rate for n, rounded; nothing at the start, and nothing beyond the term.
-unfoldable pub yearCredit : (ℕ → ℕ → ℕ) → Purchase → ℕ → ℕ
+unfoldable pub yearCredit : (round : ℕ → ℕ → ℕ) → Purchase → (n : ℕ) → ℕ
 yearCredit round p n =
-    pick (eqb n 0) 0 (pick (leb n (p .term)) (round (ownContribution p * unit) (p .rate n)) 0)
+    pick (eqb n 0) 0 (pick (leb n (p .term)) (round (ownContribution p * p .unit) (p .rate n)) 0)
 
 -- all of them as one row: the start, and a place for each year that the longest term has
-unfoldable pub yearCredits : (ℕ → ℕ → ℕ) → Purchase → List ℕ
+unfoldable pub yearCredits : (round : ℕ → ℕ → ℕ) → Purchase → List ℕ
 yearCredits round p = tabulate (yearCredit round p) 0 21
 
--- What such a row is worth at a month: the year that was last completed and the one under way, blended by the months passed since.
-unfoldable pub monthValue : (ℕ → ℕ → ℕ) → List ℕ → ℕ → ℕ
-monthValue round years month = blendBy round (month % 12) (getD years (month / 12) 0) (getD years (suc (month / 12)) 0)
+-- Twelve times what such a row is worth at a month, nothing rounded: the year that was last completed and the one under way, by the months
+-- passed since.
+unfoldable pub monthNumerator : (years : List ℕ) (month : ℕ) → ℕ
+monthNumerator years month =
+    twelfths (month % monthsInYear) (getD years (month / monthsInYear) 0) (getD years (suc (month / monthsInYear)) 0)
+
+-- What it is worth at a month.
+unfoldable pub monthValue : (round : ℕ → ℕ → ℕ) (years : List ℕ) (month : ℕ) → ℕ
+monthValue round years month = round (monthNumerator years month) monthsInYear

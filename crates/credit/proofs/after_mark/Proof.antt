@@ -3,7 +3,7 @@
 use native.Mathlib.Omega.{arith}
 use borrow.Author.Needs.{needs}
 use Rattle.common.proofs.Tests.{tests}
-use Rattle.credit.specs.Earned.{afterMark}
+use Rattle.credit.specs.SoFar.{afterMark}
 use Rattle.credit.proofs.after_mark.Statement.{statement}
 use Rattle.credit.proofs.after_mark.Tie as tie
 

@@ -8,17 +8,17 @@ use borrow.Author.Needs.{needs}
 use Rattle.rounding.specs.Nearest.{nearest}
 use Rattle.money.specs.declared.PensionPence.{PensionPence}
 use Rattle.money.specs.Money.{pension}
-use Rattle.credit.specs.declared.Earned.{Earned}
+use Rattle.credit.specs.declared.CreditSoFar.{CreditSoFar}
 use Rattle.years.specs.Years.{monthValue}
-use Rattle.credit.specs.Earned.{creditAt}
+use Rattle.credit.specs.SoFar.{creditAt}
 use Rattle.credit.proofs.credit_at.Statement.{statement}
 use Rattle.credit.proofs.credit_at.Tie as tie
 
-none-open : (years : List ℕ) (e : Earned) → e .from ≡ e .month → e .sum ≡ pension (creditAt nearest years e)
+none-open : (years : List ℕ) (e : CreditSoFar) → e .from ≡ e .month → e .sum ≡ pension (creditAt nearest years e)
 unfolding creditAt
 none-open years e h = ap pension (omega (arith, ap (monthValue nearest years) h))
 
-one-open : (years : List ℕ) (e : Earned) (end start gain r : PensionPence) → end ≡ pension (monthValue nearest years (e .month))
+one-open : (years : List ℕ) (e : CreditSoFar) (end start gain r : PensionPence) → end ≡ pension (monthValue nearest years (e .month))
     → start ≡ pension (monthValue nearest years (e .from)) → gain ≡ pension (end .0 - start .0) → r ≡ pension (e .sum .0 + gain .0)
     → r ≡ pension (creditAt nearest years e)
 unfolding creditAt

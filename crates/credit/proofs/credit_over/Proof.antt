@@ -12,13 +12,13 @@ use Rattle.money.specs.Money.{pension}
 use Rattle.years.specs.Years.{monthValue}
 use Rattle.credit.specs.Runs.{runsIn}
 use Rattle.credit.specs.Credit.{creditOver}
-use Rattle.credit.proofs.ByRuns.{ends-inside, earnedFrom, past-run, past-other, none-left}
+use Rattle.credit.proofs.ByRuns.{ends-inside, sumFrom, past-run, past-other, no-runs-left}
 use Rattle.credit.proofs.credit_over.Statement.{statement}
 use Rattle.credit.proofs.credit_over.Tie as tie
 
 abbrev Inv-loop : tie.InvT-loop
 Inv-loop years marks sum₀ i₀ sum i =
-    (i ≤ length marks) × (sum .0 ≤ i * 2 ^ 32) × (sum .0 + earnedFrom (monthValue nearest years) marks i ≡ creditOver nearest years marks)
+    (i ≤ length marks) × (sum .0 ≤ i * 2 ^ 32) × (sum .0 + sumFrom (monthValue nearest years) marks i ≡ creditOver nearest years marks)
 
 abbrev μ-loop : tie.MeasureT-loop
 μ-loop years marks sum₀ i₀ sum i = length marks - i
@@ -111,7 +111,7 @@ returns : tie.Need-returns Inv-loop μ-loop
 returns c =
     let w = c .before .loop in
     let a = c .before .before .before .before .args in
-    ap pension (omega (arith, w .inv, none-left (monthValue nearest (a .years)) (now (a .marks)) (w .i) (c .loop-test .left)))
+    ap pension (omega (arith, w .inv, no-runs-left (monthValue nearest (a .years)) (now (a .marks)) (w .i) (c .loop-test .left)))
 
 pub credit-over-spec : {M : Type 1} → statement M
 credit-over-spec =

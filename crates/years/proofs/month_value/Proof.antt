@@ -11,13 +11,13 @@ use Rattle.rounding.specs.Nearest.{nearest, blend}
 use Rattle.rounding.proofs.Laws.{blend-most}
 use Rattle.money.specs.declared.PensionPence.{PensionPence}
 use Rattle.money.specs.Money.{pension}
-use Rattle.years.specs.Years.{monthValue}
+use Rattle.years.specs.Years.{monthNumerator, monthValue}
 use Rattle.years.proofs.month_value.Statement.{statement}
 use Rattle.years.proofs.month_value.Tie as tie
 
 by-years : (years : List ℕ) (month year next : ℕ) → year ≡ getD years (month / 12) 0 → next ≡ getD years (month / 12 + 1) 0
     → blend (month % 12) year next ≡ monthValue nearest years month
-unfolding blend monthValue
+unfolding blend monthValue monthNumerator
 by-years years month year next p q = rw (p, q, add-one)
 
 slice-aggregate-year-at : tie.Need-slice-aggregate-year-at

@@ -8,7 +8,6 @@ use Rattle.rounding.specs.Nearest.{nearest}
 use Rattle.rounding.proofs.InForce.{nearest-within-half}
 use Rattle.rounding.proofs.Laws.{round-most}
 use Rattle.money.specs.declared.PensionPence.{PensionPence}
-use Rattle.money.specs.Limits.{unit}
 use Rattle.years.proofs.year_credit.Statement.{statement}
 use Rattle.years.proofs.year_credit.Tie as tie
 
@@ -21,14 +20,14 @@ fits n rate small most =
 buys-requires : tie.Need-buys-requires
 buys-requires c κs = fits _ (c .args .rate) (omega arith) (c .pre .1)
 
-bought : (c : tie.After-buys) → c .buys .result .0 ≡ nearest (c .before .args .own .0 * unit) (c .before .args .rate)
+bought : (c : tie.After-buys) → c .buys .result .0 ≡ nearest (c .before .args .own .0 * c .before .args .unit .0) (c .before .args .rate)
 bought c = ap (λ (p : PensionPence). p .0) (c .buys .ensures)
 
 cast-result : tie.Need-cast-result
 cast-result c =
     let a = c .before .before .args in
     let pre = c .before .before .pre in
-    omega (arith, round-most nearest nearest-within-half (a .own .0 * unit) (a .rate) (2 ^ 32 - 1) (pre .0) (pre .1), bought (c .before))
+    omega (arith, round-most nearest nearest-within-half (a .own .0 * a .unit .0) (a .rate) (2 ^ 32 - 1) (pre .0) (pre .1), bought (c .before))
 
 returns : tie.Need-returns
 returns c = bought (c .before)
