@@ -1,5 +1,6 @@
 // Whether terms and marks are refused, and by which rule first; or what a settlement of them goes by.
 ghost use mathlib.Core.Path.{_≡_};
+ghost use Rattle.marks.specs.Refusal.{refusing};
 ghost use Rattle.examination.specs.Examine.{refusedExamined, examinedOf};
 use election::TableRates;
 use money::ContributionPence;
@@ -12,22 +13,21 @@ pub struct Examined {
     pub place: usize,
     pub contribution: ContributionPence,
     pub status: u32,
-    // paid months
-    pub paid: usize,
+    pub paid_months: usize,
     // the rates that the terms go by
     pub rates: TableRates,
 }
 
 // A refusal and its place, with nothing to settle by.
-fn refuse(refusal: u32, place: usize) -> Examined
-    ensures { λ r. ⌜ r ≡ refusedExamined refusal place ⌝ }
+fn refused_examination(refusal: u32, place: usize) -> Examined
+    ensures { λ r. ⌜ r ≡ refusedExamined (refusing refusal place) ⌝ }
 {
     Examined {
         refusal,
         place,
         contribution: ContributionPence::none(),
         status: 0,
-        paid: 0,
+        paid_months: 0,
         rates: TableRates { lower: 0, upper: 0 },
     }
 }
@@ -39,20 +39,20 @@ pub fn examine(t: Terms, marks: &[u8]) -> Examined
     let rates = election::rates_of(t);
     let refusal = election::first_refusal(t, rates, PensionPence::none());
     if refusal != 0 {
-        return refuse(refusal, 0);
+        return refused_examination(refusal, 0);
     }
-    let read = marks::read_marks(marks, t.term);
+    let read = marks::read_marks(marks, scheme::OPEN_MONTHS, t.term);
     if read.refusal != 0 {
-        return refuse(read.refusal, read.place);
+        return refused_examination(read.refusal, read.place);
     }
     let contribution = election::cost(t, rates);
-    let status = status::status(t.term, read);
+    let status = marks::status(t.term, read);
     Examined {
         refusal: 0,
         place: 0,
         contribution,
         status,
-        paid: read.paid,
+        paid_months: read.paid_months,
         rates,
     }
 }

@@ -4,7 +4,7 @@ use mathlib.Core.Bool.{Bool, true, false}
 use mathlib.Core.List.{List}
 use mathlib.Core.Logic.{⊎-elim}
 use mathlib.Core.Path.{_≡_, refl, sym, _∙_}
-use Prim.Native.Nat.{ℕ, _*_, _≤_}
+use Prim.Native.Nat.{ℕ, _*_, _-_, _≤_}
 use native.Mathlib.Decide.{ℕ-discrete, decLe}
 use native.Mathlib.Nat.{mul-le-mul}
 use native.Mathlib.Omega.{arith}
@@ -12,19 +12,21 @@ use borrow.Author.Tests.{eqb-true, eqb-false}
 use lib.Dec.{eqb}
 use lib.ListN.{length}
 use Rattle.common.specs.Choice.{pick}
+use Rattle.common.specs.Calendar.{monthsInYear}
+use Rattle.scheme.specs.Scheme.{poundsInPence, longestTerm, mostMarks, openMonths, ceasedFrom}
+use Rattle.scheme.specs.Bounds.{mostMonthlyContribution, mostRefund, lastOfSettle}
 use Rattle.terms.specs.declared.Terms.{Terms}
 use Rattle.terms.specs.Rules.{refusalOf}
 use Rattle.election.specs.Price.{contributionOf}
 use Rattle.terms.proofs.Laws.{refusal-most}
-use Rattle.election.proofs.Laws.{accepted-facts, contribution-most, contribution-least}
+use Rattle.election.proofs.Laws.{terms-accepted, contribution-most, monthly-most, contribution-least}
 use Rattle.marks.specs.Counts.{paidMonths}
-use Rattle.status.specs.Status.{statusOf}
-use Rattle.marks.specs.Reading.{readingOf, marksOf}
-use Rattle.status.proofs.StatusOf.{not-lump, status-most, refunded-early}
-use Rattle.marks.proofs.Term.{too-many, not-too-many, marks-counts, marks-within}
-use Rattle.marks.proofs.Refusals.{lawful-reading, unrefused-lawful, refused-first}
-use Rattle.examination.specs.Examine.{settleRefusal, settlePlace}
-use Rattle.examination.proofs.Laws.{refused-by-terms, place-by-terms, refused-by-marks, place-by-marks, accepted, lawful}
+use Rattle.marks.specs.Refusal.{RefusedAt, marksRefusal}
+use Rattle.marks.specs.Status.{statusOf}
+use Rattle.marks.proofs.StatusOf.{not-lump, status-most, refunded-early}
+use Rattle.marks.proofs.Term.{too-many-marks, few-refused, marks-unrefused, marks-lawful, marks-counts, marks-within}
+use Rattle.examination.specs.Refusal.{settleRefusal}
+use Rattle.examination.proofs.Laws.{refused-by-terms, refused-by-marks, settled-terms, settled-marks}
 use Rattle.settlement.specs.Credit.{creditOf}
 use Rattle.settlement.specs.Settle.{creditAtStatus, refundAtStatus, settleOf}
 use Rattle.settlement.specs.Bounds.{SettleBounds}
@@ -32,45 +34,47 @@ use Rattle.settlement.proofs.Laws.{settle-refused, settle-settled, sett
 use Rattle.settlement.proofs.Demand.{worked-most}
 
 module _ (t : Terms) (ms : List ℕ) where
-  -- a refusal of the marks under accepted terms
-  by-marks : refusalOf t 0 ≡ 0 → (marksOf (t .term) ms .refusal ≤ 12) × (marksOf (t .term) ms .place ≤ 239)
-  by-marks pass = go (decLe (length ms) (12 * t .term))
-    where
-      high : t .term ≤ 20
-      high = accepted-facts t 0 pass .term-high
+  -- a refusal within its bounds
+  abbrev Bounded : RefusedAt → Type 0
+  Bounded r = (r .number ≤ lastOfSettle) × (r .place ≤ mostMarks - 1)
 
-      read : length ms ≤ 12 * t .term → Dec (readingOf ms .refusal ≡ 0) → (readingOf ms .refusal ≤ 12) × (readingOf ms .place ≤ 239)
-      read few (yes z) = rw (lawful-reading ms (unrefused-lawful ms z)) (omega arith)
-      read few (no h) =
-          let bad = refused-first ms h in
+  -- of the marks under accepted terms
+  by-marks : refusalOf t 0 ≡ 0 → Bounded (marksRefusal openMonths (t .term) ms)
+  by-marks pass = go (decLe (length ms) (monthsInYear * t .term)) (ℕ-discrete (marksRefusal openMonths (t .term) ms .number) 0)
+    where
+      high : t .term ≤ longestTerm
+      high = terms-accepted t 0 pass .term-high
+
+      go : Dec (length ms ≤ monthsInYear * t .term) → Dec (marksRefusal openMonths (t .term) ms .number ≡ 0)
+          → Bounded (marksRefusal openMonths (t .term) ms)
+      go few (yes z) = rw (marks-unrefused openMonths (t .term) ms (marks-lawful openMonths (t .term) ms z)) (omega arith)
+      go (no many) (no h) = rw (too-many-marks openMonths (t .term) ms (omega arith)) (omega arith)
+      go (yes few) (no h) =
+          let bad = few-refused openMonths (t .term) ms few h in
           (⊎-elim (λ w. omega (arith, w .0)) (λ w. omega (arith, w .0)) (bad .number), omega (arith, bad .inside, few, high))
 
-      go : Dec (length ms ≤ 12 * t .term) → (marksOf (t .term) ms .refusal ≤ 12) × (marksOf (t .term) ms .place ≤ 239)
-      go (yes few) = rw (not-too-many (t .term) ms few) (read few (ℕ-discrete (readingOf ms .refusal) 0))
-      go (no many) = rw (too-many (t .term) ms (omega arith)) (omega arith)
-
-  refusal-bounds : (settleRefusal t ms ≤ 12) × (settlePlace t ms ≤ 239)
+  refusal-bounds : Bounded (settleRefusal t ms)
   refusal-bounds = go (ℕ-discrete (refusalOf t 0) 0)
     where
-      go : Dec (refusalOf t 0 ≡ 0) → (settleRefusal t ms ≤ 12) × (settlePlace t ms ≤ 239)
-      go (yes pass) = rw (refused-by-marks t ms pass, place-by-marks t ms pass) (by-marks pass)
-      go (no h) = rw (refused-by-terms t ms h, place-by-terms t ms h) (omega (arith, refusal-most t 0))
+      go : Dec (refusalOf t 0 ≡ 0) → Bounded (settleRefusal t ms)
+      go (yes pass) = rw (refused-by-marks t ms pass) (by-marks pass)
+      go (no h) = rw (refused-by-terms t ms h) (omega (arith, refusal-most t 0))
 
   -- no credit passes the amount
-  pub credit-amount : settleRefusal t ms ≡ 0 → creditAtStatus t ms (statusOf (t .term) ms) ≤ t .amount * 100
+  pub credit-amount : settleRefusal t ms .number ≡ 0 → creditAtStatus t ms (statusOf openMonths (t .term) ms) ≤ poundsInPence (t .amount)
   unfolding creditAtStatus
-  credit-amount none = go (eqb (statusOf (t .term) ms) 5) (eqb (statusOf (t .term) ms) 6) refl
+  credit-amount none = go (eqb (statusOf openMonths (t .term) ms) 5) (eqb (statusOf openMonths (t .term) ms) 6) refl
     where
-      go : (a b : Bool) → eqb (statusOf (t .term) ms) 6 ≡ b → pick a 0 (pick b (t .amount * 100) (creditOf t ms)) ≤ t .amount * 100
+      go : (a b : Bool) → eqb (statusOf openMonths (t .term) ms) 6 ≡ b → pick a 0 (pick b (poundsInPence (t .amount)) (creditOf t ms)) ≤ poundsInPence (t .amount)
       go true b e = omega arith
       go false true e = omega arith
-      go false false e = worked-most t ms none (not-lump (t .term) ms (eqb-false _ _ e))
+      go false false e = worked-most t ms none (not-lump openMonths (t .term) ms (eqb-false _ _ e))
 
   -- whatever the terms and marks: what is refused has no credit
-  pub settle-credit-most : settleOf t ms .credit ≤ t .amount * 100
-  settle-credit-most = go (ℕ-discrete (settleRefusal t ms) 0)
+  pub settle-credit-most : settleOf t ms .credit ≤ poundsInPence (t .amount)
+  settle-credit-most = go (ℕ-discrete (settleRefusal t ms .number) 0)
     where
-      go : Dec (settleRefusal t ms ≡ 0) → settleOf t ms .credit ≤ t .amount * 100
+      go : Dec (settleRefusal t ms .number ≡ 0) → settleOf t ms .credit ≤ poundsInPence (t .amount)
       go (yes none) = rw (settle-settled t ms none) (credit-amount none)
       go (no some) = rw (settle-refused t ms some) (omega arith)
 
@@ -78,28 +82,37 @@ module _ (t : Terms) (ms : List ℕ) where
   pub settle-contribution-least : settleOf t ms .refusal ≡ 0 → 1 ≤ settleOf t ms .contribution
   settle-contribution-least z =
       let none = sym (settle-refusal t ms) ∙ z in
-      rw (settle-settled t ms none) (contribution-least t 0 (accepted t ms none))
+      rw (settle-settled t ms none) (contribution-least t 0 (settled-terms t ms none))
 
-  refund-bound : settleRefusal t ms ≡ 0 → refundAtStatus t ms (statusOf (t .term) ms) ≤ 130416000
+  -- eleven monthly contributions at most
+  refund-bound : settleRefusal t ms .number ≡ 0 → refundAtStatus t ms (statusOf openMonths (t .term) ms) ≤ mostRefund
   unfolding refundAtStatus
-  refund-bound none = go (eqb (statusOf (t .term) ms) 5) refl
+  refund-bound none = go (eqb (statusOf openMonths (t .term) ms) 5) refl
     where
-      few-paid : statusOf (t .term) ms ≡ 5 → paidMonths ms ≤ 11
+      few-paid : statusOf openMonths (t .term) ms ≡ 5 → paidMonths ms ≤ ceasedFrom - 1
       few-paid s =
           omega (
             arith,
-            refunded-early (t .term) ms s,
-            rw (marks-counts (t .term) ms (lawful t ms none)) at (marks-within (t .term) ms) .paid-most,
+            refunded-early openMonths (t .term) ms s,
+            rw (marks-counts openMonths (t .term) ms (settled-marks t ms none)) at (marks-within openMonths (t .term) ms) .paid-most,
           )
 
-      go : (b : Bool) → eqb (statusOf (t .term) ms) 5 ≡ b → pick b (contributionOf t * paidMonths ms) 0 ≤ 130416000
-      go true e = mul-le-mul {n₂ = 11856000} {m₂ = 11} (contribution-most t 0 (accepted t ms none)) (few-paid (eqb-true _ _ e))
+      monthly : statusOf openMonths (t .term) ms ≡ 5 → contributionOf t ≤ mostMonthlyContribution
+      monthly s = monthly-most t 0 (settled-terms t ms none) (not-lump openMonths (t .term) ms (λ six. omega (arith, s, six)))
+
+      go : (b : Bool) → eqb (statusOf openMonths (t .term) ms) 5 ≡ b → pick b (contributionOf t * paidMonths ms) 0 ≤ mostRefund
+      go true e =
+          let s = eqb-true _ _ e in
+          omega (
+            arith,
+            mul-le-mul {n₁ = contributionOf t} {m₁ = paidMonths ms} {n₂ = mostMonthlyContribution} {m₂ = ceasedFrom - 1} (monthly s) (few-paid s),
+          )
       go false e = omega arith
 
   pub settle-bounds : SettleBounds (settleOf t ms)
-  settle-bounds = go (ℕ-discrete (settleRefusal t ms) 0)
+  settle-bounds = go (ℕ-discrete (settleRefusal t ms .number) 0)
     where
-      go : Dec (settleRefusal t ms ≡ 0) → SettleBounds (settleOf t ms)
+      go : Dec (settleRefusal t ms .number ≡ 0) → SettleBounds (settleOf t ms)
       go (no h) =
           rw (settle-refused t ms h)
           record {
@@ -115,8 +128,8 @@ module _ (t : Terms) (ms : List ℕ) where
           record {
             refusal-most = omega arith;
             place-most = omega arith;
-            contribution-most = contribution-most t 0 (accepted t ms none);
-            status-most = status-most (t .term) ms;
-            credit-most = omega (arith, credit-amount none, accepted t ms none .under-cap);
+            contribution-most = contribution-most t 0 (settled-terms t ms none);
+            status-most = status-most openMonths (t .term) ms;
+            credit-most = omega (arith, credit-amount none, settled-terms t ms none .under-cap);
             refund-most = refund-bound none;
           }

@@ -6,20 +6,21 @@ use Prim.Native.Nat.{ℕ}
 use borrow.Author.Tests.{eq-eqb, ne-eqb}
 use Rattle.common.proofs.Choice.{chosen-number}
 use Rattle.terms.specs.declared.Terms.{Terms}
-use Rattle.examination.specs.Examine.{settleRefusal, settlePlace}
+use Rattle.examination.specs.Refusal.{settleRefusal}
 use Rattle.settlement.specs.Settle.{SettleNumbers, refusedNumbers, settledNumbers, settleOf}
 
 module _ (t : Terms) (ms : List ℕ) where
-  pub settle-refused : (settleRefusal t ms ≡ 0 → ⊥) → settleOf t ms ≡ refusedNumbers (settleRefusal t ms) (settlePlace t ms)
+  pub settle-refused : (settleRefusal t ms .number ≡ 0 → ⊥)
+      → settleOf t ms ≡ refusedNumbers (settleRefusal t ms .number) (settleRefusal t ms .place)
   unfolding settleOf
   settle-refused h = rw (ne-eqb _ _ h)
 
-  pub settle-settled : settleRefusal t ms ≡ 0 → settleOf t ms ≡ settledNumbers t ms
+  pub settle-settled : settleRefusal t ms .number ≡ 0 → settleOf t ms ≡ settledNumbers t ms
   unfolding settleOf
   settle-settled h = rw (eq-eqb _ _ h)
 
-  pub settle-refusal : settleOf t ms .refusal ≡ settleRefusal t ms
+  pub settle-refusal : settleOf t ms .refusal ≡ settleRefusal t ms .number
   unfolding settleOf
   settle-refusal =
-      chosen-number (λ (n : SettleNumbers). n .refusal) (settleRefusal t ms) (settledNumbers t ms)
-      (refusedNumbers (settleRefusal t ms) (settlePlace t ms)) refl refl
+      chosen-number (λ (n : SettleNumbers). n .refusal) (settleRefusal t ms .number) (settledNumbers t ms)
+      (refusedNumbers (settleRefusal t ms .number) (settleRefusal t ms .place)) refl refl

@@ -1,17 +1,16 @@
 -- What bounds the numbers of a settlement.
 -- Assumes nothing.
-use Prim.Native.Nat.{_≤_}
-use Rattle.money.specs.Limits.{capPence}
+use Prim.Native.Nat.{_-_, _≤_}
+use Rattle.scheme.specs.Scheme.{capPence, mostMarks}
+use Rattle.scheme.specs.Bounds.{mostContribution, mostRefund, lastOfSettle}
 use Rattle.settlement.specs.Settle.{SettleNumbers}
 
 -- no number of a settlement is larger
 pub record SettleBounds (n : SettleNumbers) : Type 0 where
-  pub refusal-most : n .refusal ≤ 12
-  -- the last index of 240 marks
-  pub place-most : n .place ≤ 239
-  -- twenty-six times £250 at the greatest rate, £4,560
-  pub contribution-most : n .contribution ≤ 11856000
+  pub refusal-most : n .refusal ≤ lastOfSettle
+  -- the last index of the marks of the longest term
+  pub place-most : n .place ≤ mostMarks - 1
+  pub contribution-most : n .contribution ≤ mostContribution
   pub status-most : n .status ≤ 6
   pub credit-most : n .credit ≤ capPence
-  -- eleven of the greatest contribution
-  pub refund-most : n .refund ≤ 130416000
+  pub refund-most : n .refund ≤ mostRefund

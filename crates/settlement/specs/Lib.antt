@@ -3,3 +3,4 @@ pub mod Settle
 pub mod Marks
 pub mod Demand
 pub mod Bounds
+pub mod Six

@@ -5,21 +5,25 @@ use mathlib.Core.Path.{_≡_, sym, ap, _∙_}
 use Prim.Native.Nat.{ℕ}
 use native.Mathlib.Omega.{arith}
 use borrow.Author.Needs.{needs}
-use Rattle.election.proofs.Laws.{accepted-facts}
-use Rattle.election.specs.Price.{contributionOf, ratesOf}
+use Rattle.scheme.specs.Scheme.{openMonths}
+use Rattle.election.proofs.Laws.{terms-accepted}
+use Rattle.election.specs.Price.{contributionOf}
+use Rattle.election.specs.LookedUp.{ratesOf}
 use Rattle.terms.specs.Rules.{refusalOf}
 use Rattle.election.specs.declared.TableRates.{TableRates}
 use Rattle.terms.specs.declared.Terms.{Terms}
-use Rattle.status.proofs.StatusOf.{status-lawful}
-use Rattle.marks.proofs.Term.{marks-counts, marks-lawful}
-use Rattle.marks.specs.Reading.{marksOf}
-use Rattle.status.specs.Status.{statusFrom}
+use Rattle.marks.proofs.StatusOf.{status-lawful}
+use Rattle.marks.proofs.Term.{marks-counts, marks-number, marks-place}
+use Rattle.marks.specs.Refusal.{RefusedAt, refusing}
+use Rattle.marks.specs.Reading.{marksReading, statusFrom}
 use Rattle.marks.specs.declared.Reading.{Reading}
-use Rattle.money.specs.Money.{pension, contribution}
+use Rattle.money.specs.Money.{pension}
+use Rattle.money.specs.Contribution.{contribution}
 use Rattle.money.specs.declared.ContributionPence.{ContributionPence}
 use Rattle.money.specs.declared.PensionPence.{PensionPence}
-use Rattle.examination.proofs.Laws.{refused-by-terms, place-by-terms, refused-by-marks, place-by-marks, examined-refused, examined-accepted}
-use Rattle.examination.specs.Examine.{settleRefusal, refusedExamined, examinedOf}
+use Rattle.examination.proofs.Laws.{refused-by-terms, refused-by-marks, settled-marks, examined-refused, examined-accepted}
+use Rattle.examination.specs.Refusal.{settleRefusal}
+use Rattle.examination.specs.Examine.{refusedExamined, examinedOf}
 use Rattle.examination.specs.declared.Examined.{Examined}
 use Rattle.examination.proofs.examine.Statement.{statement}
 use Rattle.examination.proofs.examine.Tie as tie
@@ -28,25 +32,34 @@ use Rattle.examination.proofs.examine.Tie as tie
 told : (t : Terms) {n : ℕ} {nothing : PensionPence} → n ≡ refusalOf t (nothing .0) → nothing ≡ pension 0 → n ≡ refusalOf t 0
 told t e z = e ∙ ap (λ (p : PensionPence). refusalOf t (p .0)) z
 
-by-terms : (t : Terms) (ms : List ℕ) {n : ℕ} → n ≡ refusalOf t 0 → (n ≡ 0 → ⊥) → refusedExamined n 0 ≡ examinedOf t ms
+by-terms : (t : Terms) (ms : List ℕ) {n : ℕ} → n ≡ refusalOf t 0 → (n ≡ 0 → ⊥) → refusedExamined (refusing n 0) ≡ examinedOf t ms
 by-terms t ms is some =
     let refuses : refusalOf t 0 ≡ 0 → ⊥ = λ z. some (is ∙ z) in
-    rw (is, examined-refused t ms (λ z. refuses (sym (refused-by-terms t ms refuses) ∙ z)), refused-by-terms t ms refuses, place-by-terms t ms refuses)
+    let by = refused-by-terms t ms refuses in
+    rw (is, examined-refused t ms (λ z. refuses (sym (ap (λ (r : RefusedAt). r .number) by) ∙ z)), by)
 
-by-marks : (t : Terms) (ms : List ℕ) {r : Reading} → refusalOf t 0 ≡ 0 → r ≡ marksOf (t .term) ms → (r .refusal ≡ 0 → ⊥)
-    → refusedExamined (r .refusal) (r .place) ≡ examinedOf t ms
+-- the reading has the refusal of the marks
+read-is : (t : Terms) (ms : List ℕ) {r : Reading} → refusalOf t 0 ≡ 0 → r ≡ marksReading openMonths (t .term) ms
+    → refusing (r .refusal) (r .place) ≡ settleRefusal t ms
+read-is t ms pass e =
+    rw (e, marks-number openMonths (t .term) ms, marks-place openMonths (t .term) ms) (sym (refused-by-marks t ms pass))
+
+by-marks : (t : Terms) (ms : List ℕ) {r : Reading} → refusalOf t 0 ≡ 0 → r ≡ marksReading openMonths (t .term) ms → (r .refusal ≡ 0 → ⊥)
+    → refusedExamined (refusing (r .refusal) (r .place)) ≡ examinedOf t ms
 by-marks t ms pass e some =
-    let refuses : settleRefusal t ms ≡ 0 → ⊥ = λ z. some (ap (λ (r : Reading). r .refusal) e ∙ sym (refused-by-marks t ms pass) ∙ z) in
-    rw (e, examined-refused t ms refuses, refused-by-marks t ms pass, place-by-marks t ms pass)
+    let is = read-is t ms pass e in
+    ap refusedExamined is ∙ sym (examined-refused t ms (λ z. some (ap (λ (x : RefusedAt). x .number) is ∙ z)))
 
 whole : (t : Terms) (ms : List ℕ) {k : ContributionPence} {rates : TableRates} {r : Reading} {s : ℕ} → refusalOf t 0 ≡ 0
-    → k ≡ contribution (contributionOf t) → rates ≡ ratesOf t → r ≡ marksOf (t .term) ms → r .refusal ≡ 0 → s ≡ statusFrom (t .term) r
-    → _≡_ {A = Examined} (record { refusal = 0; place = 0; contribution = k; status = s; paid = r .paid; rates = rates }) (examinedOf t ms)
+    → k ≡ contribution (contributionOf t) → rates ≡ ratesOf t → r ≡ marksReading openMonths (t .term) ms → r .refusal ≡ 0
+    → s ≡ statusFrom (t .term) r
+    → _≡_ {A = Examined}
+    (record { refusal = 0; place = 0; contribution = k; status = s; «paid_months» = r .«paid_months»; rates = rates }) (examinedOf t ms)
 whole t ms pass cost are read none s =
-    let zero-refusal = sym (ap (λ (r : Reading). r .refusal) read) ∙ none in
-    let law = marks-lawful (t .term) ms zero-refusal in
-    let status = s ∙ ap (statusFrom (t .term)) read ∙ status-lawful (t .term) ms law in
-    rw (status, read, marks-counts (t .term) ms law, cost, are, examined-accepted t ms (refused-by-marks t ms pass ∙ zero-refusal))
+    let zero-refusal = sym (ap (λ (x : RefusedAt). x .number) (read-is t ms pass read)) ∙ none in
+    let law = settled-marks t ms zero-refusal in
+    let status = s ∙ ap (statusFrom (t .term)) read ∙ status-lawful openMonths (t .term) ms law in
+    rw (status, read, marks-counts openMonths (t .term) ms law, cost, are, examined-accepted t ms zero-refusal)
 
 refusal-is : (c : tie.After-first-refusal)
     → c .first-refusal .result ≡ refusalOf (c .before .before .before .before .args .t) 0
@@ -61,28 +74,28 @@ none-requires c κs = search needs
 first-refusal-requires : tie.Need-first-refusal-requires
 first-refusal-requires c κs = c .before .rates-of .ensures
 
-refuse-requires : tie.Need-refuse-requires
-refuse-requires c κs = search needs
+refused-examination-requires : tie.Need-refused-examination-requires
+refused-examination-requires c κs = search needs
 
 returns : tie.Need-returns
-returns c = c .refuse .ensures ∙ by-terms _ _ (refusal-is (c .before .before)) (c .before .if1 .taken)
+returns c = c .refused-examination .ensures ∙ by-terms _ _ (refusal-is (c .before .before)) (c .before .if1 .taken)
 
 read-marks-requires : tie.Need-read-marks-requires
 read-marks-requires c κs = search needs
 
-refuse-requires-2 : tie.Need-refuse-requires-2
-refuse-requires-2 c κs = search needs
+refused-examination-requires-2 : tie.Need-refused-examination-requires-2
+refused-examination-requires-2 c κs = search needs
 
 returns-2 : tie.Need-returns-2
 returns-2 c =
     let b = c .before .before .before .before in
-    c .refuse2 .ensures ∙ by-marks _ _ (sym (refusal-is (b .before)) ∙ b .if1 .left) (c .before .before .before .read-marks .ensures) (c .before .if2 .taken)
+    c .refused-examination2 .ensures ∙ by-marks _ _ (sym (refusal-is (b .before)) ∙ b .if1 .left) (c .before .before .before .read-marks .ensures) (c .before .if2 .taken)
 
 cost-requires : tie.Need-cost-requires
 cost-requires c κs =
     let b = c .before .before .before in
     let pass = sym (refusal-is (b .before)) ∙ b .if1 .left in
-    (omega (arith, accepted-facts _ _ pass .under-cap), b .before .before .before .rates-of .ensures)
+    (omega (arith, terms-accepted _ _ pass .under-cap), b .before .before .before .rates-of .ensures)
 
 status-requires : tie.Need-status-requires
 status-requires c κs = search needs
@@ -100,10 +113,10 @@ examine-spec =
     rates-of-requires
     none-requires
     first-refusal-requires
-    refuse-requires
+    refused-examination-requires
     returns
     read-marks-requires
-    refuse-requires-2
+    refused-examination-requires-2
     returns-2
     cost-requires
     status-requires

@@ -20,14 +20,14 @@ returns-2 : tie.Need-returns-2
 unfolding creditAtStatus
 returns-2 c = rw (ne-eqb _ _ (c .before .before .if1 .left), eq-eqb _ _ (c .before .if2 .taken)) (c .of-pounds .ensures)
 
-earned-requires : tie.Need-earned-requires
-earned-requires c κs = (c .before .before .before .pre .0 (c .if2 .left), c .before .before .before .pre .1)
+runs-credit-requires : tie.Need-runs-credit-requires
+runs-credit-requires c κs = (c .before .before .before .pre .0 (c .before .if1 .left) (c .if2 .left), c .before .before .before .pre .1)
 
 returns-3 : tie.Need-returns-3
 unfolding creditAtStatus
-returns-3 c = rw (ne-eqb _ _ (c .before .before .if1 .left), ne-eqb _ _ (c .before .if2 .left)) (c .earned .ensures)
+returns-3 c = rw (ne-eqb _ _ (c .before .before .if1 .left), ne-eqb _ _ (c .before .if2 .left)) (c .runs-credit .ensures)
 
 pub credit-at-status-spec : {M : Type 1} → statement M
 credit-at-status-spec =
     tie.close
-    (tie.spec none-requires returns of-pounds-requires returns-2 earned-requires returns-3)
+    (tie.spec none-requires returns of-pounds-requires returns-2 runs-credit-requires returns-3)
