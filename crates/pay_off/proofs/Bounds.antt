@@ -13,9 +13,9 @@ use Rattle.settlement.proofs.Bounds.{settle-bounds}
 use Rattle.pay_off.specs.PayOff.{nothingToPayOff, wrongIncrease, noLumpSumNow, contractRefusal, remainingOf, payOffOf}
 use Rattle.pay_off.specs.Bounds.{PayOffBounds}
 use Rattle.pay_off.proofs.Costs.{increased-most, price-most}
-use Rattle.pay_off.proofs.Contract.{passes, contract-refused, contract-priced}
+use Rattle.pay_off.proofs.Contract.{contract-passes, contract-refused, contract-priced}
 use Rattle.pay_off.proofs.Laws.{settle-refuses, contract-decides}
-use Rattle.pay_off.proofs.Told.{settled-terms}
+use Rattle.pay_off.proofs.Clauses.{unrefused-terms}
 
 contract-refusal-most : (t : Terms) (status ageNow increase : ℕ) → contractRefusal t status ageNow increase ≤ 17
 unfolding contractRefusal
@@ -34,8 +34,8 @@ module _ (t : Terms) (ms : List ℕ) (ageNow increase : ℕ) where
       by-contract : settled .refusal ≡ 0 → Dec (contractRefusal t (settled .status) ageNow increase ≡ 0)
           → PayOffBounds (payOffOf t ms ageNow increase)
       by-contract z (yes none) =
-          let a = settled-terms t ms z in
-          let pass = passes t (settled .status) ageNow increase none in
+          let a = unrefused-terms t ms z in
+          let pass = contract-passes t (settled .status) ageNow increase none in
           let more = increased-most increase (remainingOf t (settled .credit)) (pass .increase-high) (omega (arith, a .under-cap)) in
           rw (contract-decides t ms ageNow increase z, contract-priced t (settled .status) ageNow increase (settled .credit) none)
           record {

@@ -13,14 +13,14 @@ use Rattle.terms.specs.declared.Terms.{Terms}
 use Rattle.terms.specs.Rules.{missingUpper}
 use Rattle.election.specs.declared.TableRates.{TableRates}
 use Rattle.pay_off.specs.Price.{increasedBy}
-use Rattle.pay_off.specs.PayOff.{PayOffNumbers, nothingToPayOff, wrongIncrease, lumpSumNow, noLumpSumNow, contractRefusal, refusedPayOff, remainingOf, pricedPayOff, contractPayOff}
+use Rattle.pay_off.specs.PayOff.{PayOffNumbers, leastIncrease, mostIncrease, nothingToPayOff, wrongIncrease, lumpSumNow, noLumpSumNow, contractRefusal, refusedPayOff, remainingOf, pricedPayOff, contractPayOff}
 use Rattle.pay_off.proofs.Costs.{price-upper}
 
 -- what nothing refuses
-pub record Passes (t : Terms) (status ageNow increase : ℕ) : Type 0 where
+pub record ContractPasses (t : Terms) (status ageNow increase : ℕ) : Type 0 where
   pub status-fit : nothingToPayOff status ≡ false
-  pub increase-low : 1000 ≤ increase
-  pub increase-high : increase ≤ 9999
+  pub increase-low : leastIncrease ≤ increase
+  pub increase-high : increase ≤ mostIncrease
   pub printed : noLumpSumNow t ageNow ≡ false
 
 -- at a whole pension age the upper lump sum is not missed
@@ -36,17 +36,17 @@ module _ (t : Terms) (ageNow : ℕ) where
   upper = lumpSumNow t ageNow (t .«pnpa_years» + 1)
 
   -- as the code has them, looked up: the upper one with odd months only
-  pub record LookedUp (sums : TableRates) : Type 0 where
+  pub record SumsLookedUp (sums : TableRates) : Type 0 where
     pub low : sums .lower ≡ lower
     pub high : (t .«pnpa_months» ≡ 0 → ⊥) → sums .upper ≡ upper
 
 module _ (t : Terms) (status ageNow increase : ℕ) where
-  pub passes : contractRefusal t status ageNow increase ≡ 0 → Passes t status ageNow increase
+  pub contract-passes : contractRefusal t status ageNow increase ≡ 0 → ContractPasses t status ageNow increase
   unfolding contractRefusal wrongIncrease
-  passes none =
+  contract-passes none =
       let status-fit = not-first (λ (n : ℕ). n ≡ 0) (nothingToPayOff status) 16 _ (λ z. omega arith) none in
       let increase-fit = not-first (λ (n : ℕ). n ≡ 0) (wrongIncrease increase) 17 _ (λ z. omega arith) (status-fit .1) in
-      let range = or-false (ltb increase 1000) (ltb 9999 increase) (increase-fit .0) in
+      let range = or-false (ltb increase leastIncrease) (ltb mostIncrease increase) (increase-fit .0) in
       record {
         status-fit = status-fit .0;
         increase-low = ltb-false _ _ (range .0);
@@ -55,7 +55,7 @@ module _ (t : Terms) (status ageNow increase : ℕ) where
       }
 
   -- the refusal as the code works it out
-  pub refusal-is : {sums : TableRates} {refusal : ℕ} → LookedUp t ageNow sums
+  pub refusal-is : {sums : TableRates} {refusal : ℕ} → SumsLookedUp t ageNow sums
       → refusal ≡ pick (nothingToPayOff status) 16 (pick (wrongIncrease increase) 17 (pick (eqb (sums .lower) 0 || missingUpper t (sums .upper)) 5 0))
       → refusal ≡ contractRefusal t status ageNow increase
   unfolding contractRefusal noLumpSumNow
@@ -80,7 +80,7 @@ module _ (t : Terms) (status ageNow increase : ℕ) where
         (pricedPayOff t credit (lower t ageNow) (upper t ageNow) increase) (refusedPayOff (contractRefusal t status ageNow increase) 0) refl refl
 
 -- the price at the lump sums that were looked up
-pub price-is : (t : Terms) (credit ageNow increase : ℕ) {sums : TableRates} → LookedUp t ageNow sums
+pub price-is : (t : Terms) (credit ageNow increase : ℕ) {sums : TableRates} → SumsLookedUp t ageNow sums
     → pricedPayOff t credit (sums .lower) (sums .upper) increase ≡ pricedPayOff t credit (lower t ageNow) (upper t ageNow) increase
 price-is t credit ageNow increase {sums} found =
     rw (found .low, price-upper (increasedBy increase (remainingOf t credit)) (lower t ageNow) (sums .upper) (upper t ageNow) (t .«pnpa_months») (found .high))

@@ -12,7 +12,7 @@ use Rattle.pay_off.proofs.Contract.{contract-priced, contract-number}
 
 -- what is priced: Settle accepts it, nothing refuses the contract, and these are its numbers
 pub record PricedIs (t : Terms) (ms : List ℕ) (ageNow increase : ℕ) : Type 0 where
-  pub accepted : settleOf t ms .refusal ≡ 0
+  pub unrefused : settleOf t ms .refusal ≡ 0
   pub none : contractRefusal t (settleOf t ms .status) ageNow increase ≡ 0
   pub numbers : payOffOf t ms ageNow increase ≡ pricedPayOff t (settleOf t ms .credit) (lumpSumNow t ageNow (t .«pnpa_years»)) (lumpSumNow t ageNow (t .«pnpa_years» + 1)) increase
 
@@ -48,7 +48,7 @@ module _ (t : Terms) (ms : List ℕ) (ageNow increase : ℕ) where
       let passed = settle-passed z in
       let none = sym (decided-number passed) ∙ z in
       record {
-        accepted = passed;
+        unrefused = passed;
         none = none;
         numbers = contract-decides passed ∙ contract-priced t (settled .status) ageNow increase (settled .credit) none;
       }

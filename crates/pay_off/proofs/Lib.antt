@@ -3,5 +3,5 @@ pub mod Contract
 pub mod Laws
 pub mod Settled
 pub mod Complete
-pub mod Told
+pub mod Clauses
 pub mod Bounds

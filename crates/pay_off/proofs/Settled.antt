@@ -5,7 +5,8 @@ use mathlib.Core.Path.{_≡_, sym, ap, _∙_}
 use Prim.Native.Nat.{ℕ}
 use Rattle.terms.specs.declared.Terms.{Terms}
 use Rattle.examination.specs.declared.Examined.{Examined}
-use Rattle.examination.specs.Examine.{settleRefusal, examinedOf}
+use Rattle.examination.specs.Refusal.{settleRefusal}
+use Rattle.examination.specs.Examine.{examinedOf}
 use Rattle.examination.proofs.Laws.{examined-refused}
 use Rattle.examination.proofs.Examination.{examined-told, examined-none, examined-status}
 use Rattle.settlement.specs.Settle.{SettleNumbers, creditAtStatus, settleOf}
@@ -18,7 +19,7 @@ module _ (t : Terms) (ms : List ℕ) {e : Examined} (is : e ≡ examinedOf t ms)
 
   pub same-place : (e .refusal ≡ 0 → ⊥) → e .place ≡ settleOf t ms .place
   same-place some =
-      let refused : settleRefusal t ms ≡ 0 → ⊥ = λ z. some (examined-told t ms is ∙ z) in
+      let refused : settleRefusal t ms .number ≡ 0 → ⊥ = λ z. some (examined-told t ms is ∙ z) in
       ap (λ (x : Examined). x .place) (is ∙ examined-refused t ms refused)
       ∙ sym (ap (λ (n : SettleNumbers). n .place) (settle-refused t ms refused))
 

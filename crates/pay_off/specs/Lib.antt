@@ -1,4 +1,4 @@
 pub mod Price
 pub mod PayOff
-pub mod Told
+pub mod Clauses
 pub mod Bounds

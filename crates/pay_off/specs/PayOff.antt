@@ -2,9 +2,10 @@
 -- Assumes nothing.
 use mathlib.Core.Bool.{Bool, true, false, _||_}
 use mathlib.Core.List.{List}
-use Prim.Native.Nat.{ℕ, _+_, _*_, _-_}
+use Prim.Native.Nat.{ℕ, _+_, _-_}
 use lib.Dec.{ltb, eqb}
 use Rattle.common.specs.Choice.{pick}
+use Rattle.scheme.specs.Scheme.{poundsInPence}
 use Rattle.rates.specs.Rates.{lumpRateOf}
 use Rattle.terms.specs.declared.Terms.{Terms}
 use Rattle.terms.specs.Rules.{missingUpper}
@@ -22,12 +23,19 @@ pub record PayOffNumbers : Type 0 where
   pub cost : ℕ
 
 -- 16: the status is 0 (no marks yet), 5 (refunded) or 6 (lump sum)
-unfoldable pub nothingToPayOff : ℕ → Bool
+unfoldable pub nothingToPayOff : (status : ℕ) → Bool
 nothingToPayOff status = eqb status 0 || (eqb status 5 || eqb status 6)
 
--- 17: an increase, in thousandths, below 1,000 or above 9,999
-unfoldable pub wrongIncrease : ℕ → Bool
-wrongIncrease increase = ltb increase 1000 || ltb 9999 increase
+-- the increases that are taken, in thousandths
+abbrev pub leastIncrease : ℕ
+leastIncrease = 1000
+
+abbrev pub mostIncrease : ℕ
+mostIncrease = 9999
+
+-- 17: an increase that is not among them
+unfoldable pub wrongIncrease : (increase : ℕ) → Bool
+wrongIncrease increase = ltb increase leastIncrease || ltb mostIncrease increase
 
 -- the lump sum for £250 at a whole pension age: the contract's option, the age now
 abbrev pub lumpSumNow : Terms → (ageNow pensionAge : ℕ) → ℕ
@@ -49,7 +57,7 @@ refusedPayOff n place = record { refusal = n; place = place; remaining = 0; incr
 
 -- what remains of the amount, in pence, above a credit
 abbrev pub remainingOf : Terms → (credit : ℕ) → ℕ
-remainingOf t credit = t .amount * 100 - credit
+remainingOf t credit = poundsInPence (t .amount) - credit
 
 -- what remains, the same increased, and its cost at the lump sums of the two pension ages
 abbrev pub pricedPayOff : Terms → (credit lower upper increase : ℕ) → PayOffNumbers
@@ -78,12 +86,12 @@ payOffOf t marks ageNow increase =
     (refusedPayOff (settled .refusal) (settled .place))
 
 -- document 02's numbers for each case of an answer
-abbrev pub numbersOf : PayOff → PayOffNumbers
-numbersOf (Refused n i) = refusedPayOff n i
-numbersOf (Priced rest more own) =
+abbrev pub numbersOfPayOff : PayOff → PayOffNumbers
+numbersOfPayOff (Refused n i) = refusedPayOff n i
+numbersOfPayOff (Priced rest more own) =
     record { refusal = 0; place = 0; remaining = rest .0; increased = more .0; cost = own .0 }
 
 -- whether an answer is a refusal
-abbrev pub isRefused : PayOff → Bool
-isRefused (Refused n i) = true
-isRefused (Priced rest more own) = false
+abbrev pub payOffIsRefused : PayOff → Bool
+payOffIsRefused (Refused n i) = true
+payOffIsRefused (Priced rest more own) = false

@@ -4,12 +4,13 @@ ghost use mathlib.Core.Bool.{false, _||_};
 ghost use Prim.Native.Nat.{_+_, _≤_, _<_, _^_};
 ghost use lib.Dec.{ltb, eqb};
 ghost use Rattle.common.specs.Choice.{pick};
-ghost use Rattle.money.specs.Money.{contribution};
+ghost use Rattle.common.specs.Calendar.{monthsInYear};
+ghost use Rattle.money.specs.Contribution.{contribution};
 ghost use Rattle.terms.specs.Rules.{missingUpper};
-ghost use Rattle.election.specs.Told.{Accepted};
+ghost use Rattle.election.specs.TermsAccepted.{TermsAccepted};
 ghost use Rattle.pay_off.specs.Price.{priceOf};
-ghost use Rattle.pay_off.specs.PayOff.{nothingToPayOff, wrongIncrease, lumpSumNow, pricedPayOff, payOffOf, numbersOf, isRefused};
-ghost use Rattle.pay_off.specs.Told.{PricedTold, RefusedTold};
+ghost use Rattle.pay_off.specs.PayOff.{mostIncrease, nothingToPayOff, wrongIncrease, lumpSumNow, pricedPayOff, payOffOf, numbersOfPayOff, payOffIsRefused};
+ghost use Rattle.pay_off.specs.Clauses.{PayOffPriced, PayOffRefusals};
 use election::TableRates;
 use money::ContributionPence;
 use money::PensionPence;
@@ -29,13 +30,18 @@ pub enum PayOff {
     },
 }
 
+// The increases that are taken, in thousandths.
+const LEAST_INCREASE: u32 = 1000;
+
+const MOST_INCREASE: u32 = 9999;
+
 // The cost of an increased pension at the rate between those of two pension ages, which is not rounded.
 pub fn price(increased: PensionPence, lower: u32, upper: u32, months: u32) -> ContributionPence
-    requires { ⌜ (increased .0 < 2 ^ 28) × (months ≤ 11) ⌝ }
+    requires { ⌜ (increased .0 < 2 ^ 28) × (months < monthsInYear) ⌝ }
     ensures { λ r. ⌜ r ≡ contribution (priceOf (increased .0) lower upper months) ⌝ }
 {
-    let rest = 12 - months;
-    increased.costs(rest as u64 * lower as u64 + months as u64 * upper as u64)
+    let unit = PensionPence::of_pounds(scheme::STEP);
+    increased.costs(unit, rounding::twelfths(months, lower, upper))
 }
 
 fn nothing_to_pay_off(status: u32) -> bool
@@ -53,10 +59,10 @@ fn nothing_to_pay_off(status: u32) -> bool
 fn wrong_increase(increase: u32) -> bool
     ensures { λ r. ⌜ r ≡ wrongIncrease increase ⌝ }
 {
-    if increase < 1000 {
+    if increase < LEAST_INCREASE {
         return true;
     }
-    9999 < increase
+    MOST_INCREASE < increase
 }
 
 // The lump sums at the age now, as an election by lump sum looks them up; the upper one is needed with odd months only. They are not
@@ -103,10 +109,10 @@ fn contract_refusal(t: Terms, status: u32, sums: TableRates, increase: u32) -> u
 
 // What a contract lacks beside its credit, and what that costs.
 fn priced(t: Terms, credit: PensionPence, sums: TableRates, increase: u32) -> PayOff
-    requires { ⌜ Accepted t 0 ⌝ }
-    requires { ⌜ increase ≤ 9999 ⌝ }
-    ensures is { λ r. ⌜ numbersOf r ≡ pricedPayOff t (credit .0) (sums .lower) (sums .upper) increase ⌝ }
-    ensures accepted { λ r. ⌜ isRefused r ≡ false ⌝ }
+    requires { ⌜ TermsAccepted t 0 ⌝ }
+    requires { ⌜ increase ≤ mostIncrease ⌝ }
+    ensures is { λ r. ⌜ numbersOfPayOff r ≡ pricedPayOff t (credit .0) (sums .lower) (sums .upper) increase ⌝ }
+    ensures accepted { λ r. ⌜ payOffIsRefused r ≡ false ⌝ }
 {
     let whole = PensionPence::of_pounds(t.amount);
     let remaining = whole.less(credit);
@@ -123,10 +129,10 @@ fn priced(t: Terms, credit: PensionPence, sums: TableRates, increase: u32) -> Pa
 // not compared with the age at the election. Settle's refusals and credit come from the two functions that `settle` asks for them: a
 // second place that calls `settle` would cost its host call more (docs/SPEED.md).
 pub fn pay_off(t: Terms, marks: &[u8], age_now: u32, increase: u32) -> PayOff
-    ensures is { λ r. ⌜ numbersOf r ≡ payOffOf t (now (marks .entry)) «age_now» increase ⌝ }
-    ensures priced { λ r. ⌜ PricedTold t (now (marks .entry)) (numbersOf r) ⌝ }
-    ensures refusals { λ r. ⌜ RefusedTold t (now (marks .entry)) «age_now» increase (numbersOf r) ⌝ }
-    ensures refused { λ r. ⌜ isRefused r ≡ ltb 0 (payOffOf t (now (marks .entry)) «age_now» increase .refusal) ⌝ }
+    ensures is { λ r. ⌜ numbersOfPayOff r ≡ payOffOf t (now (marks .entry)) «age_now» increase ⌝ }
+    ensures priced { λ r. ⌜ PayOffPriced t (now (marks .entry)) (numbersOfPayOff r) ⌝ }
+    ensures refusals { λ r. ⌜ PayOffRefusals t (now (marks .entry)) «age_now» increase (numbersOfPayOff r) ⌝ }
+    ensures refused { λ r. ⌜ payOffIsRefused r ≡ ltb 0 (payOffOf t (now (marks .entry)) «age_now» increase .refusal) ⌝ }
 {
     let e = examination::examine(t, marks);
     if e.refusal != 0 {

@@ -3,7 +3,8 @@
 use mathlib.Core.Path.{refl, ap, _∙_}
 use borrow.Author.Needs.{needs}
 use Rattle.election.specs.declared.TableRates.{TableRates}
-use Rattle.terms.proofs.Laws.{lump-rate, upper-rate-odd}
+use Rattle.terms.proofs.Laws.{lump-rate}
+use Rattle.election.proofs.Laws.{upper-rate-odd}
 use Rattle.pay_off.proofs.lump_sums_now.Statement.{statement}
 use Rattle.pay_off.proofs.lump_sums_now.Tie as tie
 

@@ -9,35 +9,36 @@ use lib.Dec.{ltb}
 use lib.ListN.{length}
 use borrow.Author.Needs.{needs}
 use borrow.Author.Tests.{lt-ltb}
+use Rattle.scheme.specs.Scheme.{mostMarks, openMonths}
 use Rattle.money.specs.Money.{pension}
 use Rattle.money.specs.declared.PensionPence.{PensionPence}
 use Rattle.terms.specs.declared.Terms.{Terms}
-use Rattle.election.specs.Told.{Accepted}
+use Rattle.election.specs.TermsAccepted.{TermsAccepted}
 use Rattle.election.specs.declared.TableRates.{TableRates}
-use Rattle.status.proofs.StatusOf.{not-lump}
+use Rattle.marks.proofs.StatusOf.{not-lump}
 use Rattle.examination.specs.declared.Examined.{Examined}
 use Rattle.examination.specs.Examine.{examinedOf, Monthly}
-use Rattle.examination.proofs.Laws.{accepted, few}
+use Rattle.examination.proofs.Laws.{settled-terms, settled-few}
 use Rattle.examination.proofs.Examination.{examined-none, examined-status, examined-monthly}
 use Rattle.settlement.specs.Settle.{creditAtStatus}
 use Rattle.pay_off.specs.PayOff.{PayOffNumbers, lumpSumNow, contractRefusal, refusedPayOff, pricedPayOff, contractPayOff, payOffOf}
-use Rattle.pay_off.specs.Told.{PricedTold, RefusedTold}
-use Rattle.pay_off.proofs.Contract.{LookedUp, contract-refused, contract-priced, passes, refusal-is, price-is}
+use Rattle.pay_off.specs.Clauses.{PayOffPriced, PayOffRefusals}
+use Rattle.pay_off.proofs.Contract.{SumsLookedUp, contract-refused, contract-priced, contract-passes, refusal-is, price-is}
 use Rattle.pay_off.proofs.Laws.{settle-refuses, contract-decides}
 use Rattle.pay_off.proofs.Settled.{same-refusal, same-place, same-status, same-credit}
-use Rattle.pay_off.proofs.Told.{priced-told, refused-told}
+use Rattle.pay_off.proofs.Clauses.{pay-off-priced, pay-off-refusals}
 use Rattle.pay_off.proofs.pay_off.Statement.{statement}
 use Rattle.pay_off.proofs.pay_off.Tie as tie
 
 -- what the credit and the price require
 module _ (t : Terms) (ms : List ℕ) {e : Examined} (is : e ≡ examinedOf t ms) (none : e .refusal ≡ 0) where
-  monthly : ((e .status ≡ 6 → ⊥) → Monthly t (e .rates)) × (length ms ≤ 240)
+  monthly : ((e .status ≡ 5 → ⊥) → (e .status ≡ 6 → ⊥) → Monthly t (e .rates)) × (length ms ≤ mostMarks)
   monthly =
       let passed = examined-none t ms is none in
-      (λ other. examined-monthly t ms is passed (not-lump (t .term) ms (rw (examined-status t ms is passed) at other)), few t ms passed)
+      (λ five other. examined-monthly t ms is passed (not-lump openMonths (t .term) ms (rw (examined-status t ms is passed) at other)), settled-few t ms passed)
 
-  accepted-terms : Accepted t 0
-  accepted-terms = accepted t ms (examined-none t ms is none)
+  accepted-terms : TermsAccepted t 0
+  accepted-terms = settled-terms t ms (examined-none t ms is none)
 
 refusal-said : (n : ℕ) → (n ≡ 0 → ⊥) → true ≡ ltb 0 n
 refusal-said n some = sym (lt-ltb 0 n (omega (arith, some)))
@@ -48,15 +49,15 @@ module _ (t : Terms) (ms : List ℕ) (ageNow increase : ℕ) where
 
   -- all that is promised of numbers n, where b says whether they are a refusal
   abbrev Promised : PayOffNumbers → Bool → Type 0
-  Promised n b = (n ≡ answer) × (PricedTold t ms n × (RefusedTold t ms ageNow increase n × (b ≡ ltb 0 (answer .refusal))))
+  Promised n b = (n ≡ answer) × (PayOffPriced t ms n × (PayOffRefusals t ms ageNow increase n × (b ≡ ltb 0 (answer .refusal))))
 
   near : {n : PayOffNumbers} {b : Bool} → n ≡ answer → b ≡ ltb 0 (n .refusal) → Promised n b
   near is says = (
     is,
     (
-      subst (PricedTold t ms) (sym is) (priced-told t ms ageNow increase),
+      subst (PayOffPriced t ms) (sym is) (pay-off-priced t ms ageNow increase),
       (
-        subst (RefusedTold t ms ageNow increase) (sym is) (refused-told t ms ageNow increase),
+        subst (PayOffRefusals t ms ageNow increase) (sym is) (pay-off-refusals t ms ageNow increase),
         says ∙ ap (λ (n : PayOffNumbers). ltb 0 (n .refusal)) is,
       ),
     ),
@@ -87,7 +88,7 @@ module _ (t : Terms) (ms : List ℕ) (ageNow increase : ℕ) where
 
       -- priced
       third : {n : PayOffNumbers} {b : Bool} {held : PensionPence} {sums : TableRates} → contractRefusal t (e .status) ageNow increase ≡ 0
-          → LookedUp t ageNow sums → held ≡ pension credit
+          → SumsLookedUp t ageNow sums → held ≡ pension credit
           → (n ≡ pricedPayOff t (held .0) (sums .lower) (sums .upper) increase) × (b ≡ false) → Promised n b
       third {n} {b} {held} {sums} z found h told =
           let price : n ≡ pricedPayOff t credit (sums .lower) (sums .upper) increase = told .0 ∙ rw h in
@@ -97,7 +98,7 @@ module _ (t : Terms) (ms : List ℕ) (ageNow increase : ℕ) where
 
 -- what the lookup promises
 looked-up : {t : Terms} {ageNow : ℕ} {sums : TableRates}
-    → (sums .lower ≡ lumpSumNow t ageNow (t .«pnpa_years»)) × ((t .«pnpa_months» ≡ 0 → ⊥) → sums .upper ≡ lumpSumNow t ageNow (t .«pnpa_years» + 1)) → LookedUp t ageNow sums
+    → (sums .lower ≡ lumpSumNow t ageNow (t .«pnpa_years»)) × ((t .«pnpa_months» ≡ 0 → ⊥) → sums .upper ≡ lumpSumNow t ageNow (t .«pnpa_years» + 1)) → SumsLookedUp t ageNow sums
 looked-up told = record { low = told .0; high = told .1 }
 
 examine-requires : tie.Need-examine-requires
@@ -129,7 +130,7 @@ priced-requires c κs =
     let b = decided .before .before in
     let t = b .before .before .before .before .args .t in
     let told = refusal-is t _ _ _ (looked-up (decided .before .lump-sums-now .ensures)) (decided .contract-refusal .ensures) in
-    (accepted-terms _ _ (b .before .before .examine .ensures) (b .if1 .left), passes t _ _ _ (sym told ∙ c .before .before .if2 .left) .increase-high)
+    (accepted-terms _ _ (b .before .before .examine .ensures) (b .if1 .left), contract-passes t _ _ _ (sym told ∙ c .before .before .if2 .left) .increase-high)
 
 returns-3 : tie.Need-returns-3
 returns-3 c =

@@ -4,22 +4,24 @@ use mathlib.Core.Path.{_≡_, refl, ap}
 use Prim.Native.Nat.{ℕ, _*_, _-_, _≤_}
 use native.Mathlib.Omega.{arith}
 use borrow.Author.Needs.{needs}
-use Rattle.money.specs.Money.{pension, contribution}
+use Rattle.scheme.specs.Scheme.{poundsInPence, capPence}
+use Rattle.money.specs.Money.{pension}
+use Rattle.money.specs.Contribution.{contribution}
 use Rattle.money.specs.declared.ContributionPence.{ContributionPence}
 use Rattle.money.specs.declared.PensionPence.{PensionPence}
 use Rattle.terms.specs.declared.Terms.{Terms}
-use Rattle.election.specs.Told.{Accepted}
+use Rattle.election.specs.TermsAccepted.{TermsAccepted}
 use Rattle.pay_off.specs.Price.{increasedBy, priceOf}
 use Rattle.pay_off.specs.PayOff.{PayOffNumbers, remainingOf, pricedPayOff}
 use Rattle.pay_off.proofs.Costs.{increased-most}
 use Rattle.pay_off.proofs.priced.Statement.{statement}
 use Rattle.pay_off.proofs.priced.Tie as tie
 
-module _ (t : Terms) (credit : ℕ) {whole rest : PensionPence} (w : whole ≡ pension (t .amount * 100)) (r : rest ≡ pension (whole .0 - credit)) where
+module _ (t : Terms) (credit : ℕ) {whole rest : PensionPence} (w : whole ≡ pension (poundsInPence (t .amount))) (r : rest ≡ pension (whole .0 - credit)) where
   left : rest ≡ pension (remainingOf t credit)
   left = rw w at r
 
-  left-most : Accepted t 0 → rest .0 ≤ 650000
+  left-most : TermsAccepted t 0 → rest .0 ≤ capPence
   left-most a = rw left (omega (arith, a .under-cap))
 
   numbers : {more : PensionPence} {own : ContributionPence} (lower upper increase : ℕ) → more ≡ pension (increasedBy increase (rest .0))
@@ -38,7 +40,12 @@ less-requires c κs = search needs
 increased-requires : tie.Need-increased-requires
 increased-requires c κs =
     let start = c .before .before in
-    omega (arith, left-most (start .args .t) (start .args .credit .0) (c .before .of-pounds .ensures) (c .less .ensures) (start .pre .0))
+    omega (
+      arith,
+      start .pre .0 .under-cap,
+      ap (λ (p : PensionPence). p .0) (c .before .of-pounds .ensures),
+      left-most (start .args .t) (start .args .credit .0) (c .before .of-pounds .ensures) (c .less .ensures) (start .pre .0),
+    )
 
 price-requires : tie.Need-price-requires
 unfolding increasedBy

@@ -10,31 +10,32 @@ use lib.Dec.{ltb, eqb}
 use borrow.Author.Tests.{lt-ltb, le-ltb, eq-eqb, ne-eqb, eqb-true, eqb-false}
 use Rattle.common.proofs.Choice.{either}
 use Rattle.common.proofs.Tests.{by-test, or-false, or-true}
+use Rattle.scheme.specs.Scheme.{poundsInPence, stepPence}
 use Rattle.rates.proofs.Laws.{lump-printed, lump-shown, lump-none, lump-above}
 use Rattle.terms.specs.declared.Terms.{Terms}
 use Rattle.terms.specs.Rules.{missingUpper}
 use Rattle.terms.proofs.Laws.{upper-there}
 use Rattle.terms.proofs.Printed.{upper-missing, missing-upper}
-use Rattle.election.specs.Told.{Accepted}
-use Rattle.status.specs.Status.{statusOf}
-use Rattle.examination.proofs.Laws.{accepted}
+use Rattle.election.specs.TermsAccepted.{TermsAccepted}
+use Rattle.marks.specs.Status.{statusOf}
+use Rattle.examination.proofs.Laws.{settled-terms}
 use Rattle.settlement.specs.Settle.{SettleNumbers, settleOf}
 use Rattle.settlement.proofs.Laws.{settle-settled, settle-refusal}
 use Rattle.settlement.proofs.Bounds.{settle-credit-most}
-use Rattle.pay_off.specs.PayOff.{PayOffNumbers, nothingToPayOff, wrongIncrease, lumpSumNow, noLumpSumNow, contractRefusal, contractPayOff, payOffOf}
-use Rattle.pay_off.specs.Told.{PricedTold, LacksLumpSum, Payable, Taken, RefusedTold}
+use Rattle.pay_off.specs.PayOff.{PayOffNumbers, leastIncrease, mostIncrease, nothingToPayOff, wrongIncrease, lumpSumNow, noLumpSumNow, contractRefusal, contractPayOff, payOffOf}
+use Rattle.pay_off.specs.Clauses.{PayOffPriced, LacksLumpSum, StatusPayable, IncreaseTaken, PayOffRefusals}
 use Rattle.pay_off.proofs.Costs.{increased-least, increased-none, price-least, price-none}
-use Rattle.pay_off.proofs.Contract.{passes}
+use Rattle.pay_off.proofs.Contract.{contract-passes}
 use Rattle.pay_off.proofs.Complete.{complete-credit}
 use Rattle.pay_off.proofs.Laws.{settle-refuses, contract-decides, decided-number, priced-is}
 
--- terms that Settle accepts
-pub settled-terms : (t : Terms) (ms : List ℕ) → settleOf t ms .refusal ≡ 0 → Accepted t 0
-settled-terms t ms z = accepted t ms (sym (settle-refusal t ms) ∙ z)
+-- terms that Settle does not refuse
+pub unrefused-terms : (t : Terms) (ms : List ℕ) → settleOf t ms .refusal ≡ 0 → TermsAccepted t 0
+unrefused-terms t ms z = settled-terms t ms (sym (settle-refusal t ms) ∙ z)
 
 -- a needed lump sum that is not missing is above £250
 module _ (t : Terms) (ageNow : ℕ) (there : noLumpSumNow t ageNow ≡ false) where
-  above : (p : ℕ) → 0 < lumpSumNow t ageNow p → 25000 < lumpSumNow t ageNow p
+  above : (p : ℕ) → 0 < lumpSumNow t ageNow p → stepPence < lumpSumNow t ageNow p
   above p some = lump-above (t .option) p ageNow (lump-printed (t .option) p ageNow some)
 
   -- neither is missing
@@ -42,10 +43,10 @@ module _ (t : Terms) (ageNow : ℕ) (there : noLumpSumNow t ageNow ≡ false) wh
   unfolding noLumpSumNow
   both = or-false (eqb (lumpSumNow t ageNow (t .«pnpa_years»)) 0) (missingUpper t (lumpSumNow t ageNow (t .«pnpa_years» + 1))) there
 
-  lower-above : 25000 < lumpSumNow t ageNow (t .«pnpa_years»)
+  lower-above : stepPence < lumpSumNow t ageNow (t .«pnpa_years»)
   lower-above = above (t .«pnpa_years») (omega (arith, eqb-false (lumpSumNow t ageNow (t .«pnpa_years»)) 0 (both .0)))
 
-  upper-above : 0 < t .«pnpa_months» → 25000 < lumpSumNow t ageNow (t .«pnpa_years» + 1)
+  upper-above : 0 < t .«pnpa_months» → stepPence < lumpSumNow t ageNow (t .«pnpa_years» + 1)
   upper-above odd = above (t .«pnpa_years» + 1) (upper-there t _ (both .1) (λ z. omega arith))
 
 module _ (t : Terms) (ms : List ℕ) (ageNow increase : ℕ) where
@@ -55,7 +56,7 @@ module _ (t : Terms) (ms : List ℕ) (ageNow increase : ℕ) where
   abbrev answer : PayOffNumbers
   answer = payOffOf t ms ageNow increase
 
-  whole : answer .refusal ≡ 0 → answer .remaining + settled .credit ≡ t .amount * 100
+  whole : answer .refusal ≡ 0 → answer .remaining + settled .credit ≡ poundsInPence (t .amount)
   whole z = rw (priced-is t ms ageNow increase z .numbers) (omega (arith, settle-credit-most t ms))
 
   -- where nothing remains, nothing is to be paid
@@ -68,8 +69,8 @@ module _ (t : Terms) (ms : List ℕ) (ageNow increase : ℕ) where
   rises : answer .refusal ≡ 0 → (answer .remaining ≤ answer .increased) × (answer .increased ≤ answer .cost)
   rises z =
       let is = priced-is t ms ageNow increase z in
-      let pass = passes t (settled .status) ageNow increase (is .none) in
-      let age = settled-terms t ms (is .accepted) .pension-age in
+      let pass = contract-passes t (settled .status) ageNow increase (is .none) in
+      let age = unrefused-terms t ms (is .unrefused) .pension-age in
       rw (is .numbers) (
         increased-least increase _ (pass .increase-low),
         price-least _ _ _ (t .«pnpa_months») (omega (arith, age .months-high))
@@ -77,13 +78,13 @@ module _ (t : Terms) (ms : List ℕ) (ageNow increase : ℕ) where
             (λ odd. omega (arith, upper-above t ageNow (pass .printed) odd)),
       )
 
-  pub priced-told : PricedTold t ms answer
-  priced-told =
+  pub pay-off-priced : PayOffPriced t ms answer
+  pay-off-priced =
       record {
         whole = whole;
         complete = λ z complete.
             let left : answer .remaining ≡ 0 =
-            omega (arith, whole z, complete-credit t ms (priced-is t ms ageNow increase z .accepted) complete) in
+            omega (arith, whole z, complete-credit t ms (priced-is t ms ageNow increase z .unrefused) complete) in
             (left, none-left z left);
         rises = rises;
         free = λ z free. omega (arith, rises z, free);
@@ -95,17 +96,17 @@ module _ (t : Terms) (ms : List ℕ) (ageNow increase : ℕ) where
   unfolding nothingToPayOff
   nothing-said s = ⊎-elim (λ e. rw e) (⊎-elim (λ e. rw e) (λ e. rw e))
 
-  payable-fits : (s : ℕ) → Payable s → nothingToPayOff s ≡ false
+  payable-fits : (s : ℕ) → StatusPayable s → nothingToPayOff s ≡ false
   unfolding nothingToPayOff
   payable-fits s p = rw (ne-eqb s 0 (λ e. omega arith), ne-eqb s 5 (λ e. omega arith), ne-eqb s 6 (λ e. omega arith))
 
-  increase-out : ((increase < 1000) ⊎ (9999 < increase)) → wrongIncrease increase ≡ true
+  increase-out : ((increase < leastIncrease) ⊎ (mostIncrease < increase)) → wrongIncrease increase ≡ true
   unfolding wrongIncrease
-  increase-out = ⊎-elim (λ low. rw (lt-ltb increase 1000 low)) (λ high. rw (lt-ltb 9999 increase high) (or-true (ltb increase 1000)))
+  increase-out = ⊎-elim (λ low. rw (lt-ltb increase leastIncrease low)) (λ high. rw (lt-ltb mostIncrease increase high) (or-true (ltb increase leastIncrease)))
 
-  increase-taken : Taken increase → wrongIncrease increase ≡ false
+  increase-taken : IncreaseTaken increase → wrongIncrease increase ≡ false
   unfolding wrongIncrease
-  increase-taken p = rw (le-ltb increase 1000 (p .0), le-ltb 9999 increase (p .1))
+  increase-taken p = rw (le-ltb increase leastIncrease (p .0), le-ltb mostIncrease increase (p .1))
 
   -- a lump sum that is missing, in the words of the print rule
   no-lump-says : noLumpSumNow t ageNow ≡ true → LacksLumpSum t ageNow
@@ -143,9 +144,9 @@ module _ (t : Terms) (ms : List ℕ) (ageNow increase : ℕ) where
   lump-status z lump =
       ap (λ (n : SettleNumbers). n .status) (settle-settled t ms (sym (settle-refusal t ms) ∙ z)) ∙ rw lump
 
-  pub refused-told : RefusedTold t ms ageNow increase answer
+  pub pay-off-refusals : PayOffRefusals t ms ageNow increase answer
   unfolding contractRefusal
-  refused-told =
+  pay-off-refusals =
       record {
         settle-first = λ some.
             let whole = settle-refuses t ms ageNow increase some in
@@ -158,7 +159,7 @@ module _ (t : Terms) (ms : List ℕ) (ageNow increase : ℕ) where
         five = λ z fit range lacks.
             decided-number t ms ageNow increase z
             ∙ rw (payable-fits (settled .status) fit, increase-taken range, says-no-lump lacks);
-        accepted = λ z fit range there.
+        priced = λ z fit range there.
             by-test (noLumpSumNow t ageNow) (λ e. absurd (there (no-lump-says e)))
             (λ e. decided-number t ms ageNow increase z ∙ rw (payable-fits (settled .status) fit, increase-taken range, e));
       }
