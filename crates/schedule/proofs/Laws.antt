@@ -10,26 +10,26 @@ use lib.ListN.{length, take, getD}
 use Rattle.common.specs.Choice.{pick}
 use Rattle.rounding.specs.Nearest.{nearest, combine}
 use Rattle.rounding.proofs.Laws.{combine-upper}
-use Rattle.money.specs.Limits.{capPence}
+use Rattle.scheme.specs.Scheme.{openMonths, poundsInPence}
 use Rattle.terms.specs.declared.Terms.{Terms}
-use Rattle.status.specs.Status.{statusOf}
+use Rattle.marks.specs.Status.{statusOf}
 use Rattle.marks.proofs.Term.{marks-take}
-use Rattle.status.proofs.StatusOf.{status-lawful}
+use Rattle.marks.proofs.StatusOf.{status-lawful}
 use Rattle.credit.specs.Credit.{creditOver, creditIn}
-use Rattle.credit.specs.Earned.{nothingYet, creditAt, afterMarks}
+use Rattle.credit.specs.SoFar.{nothingYet, creditAt, afterMarks}
 use Rattle.credit.proofs.Runs.{one-mark-more, by-runs}
 use Rattle.settlement.specs.Credit.{creditOf}
-use Rattle.examination.specs.Examine.{settleRefusal}
-use Rattle.examination.proofs.Laws.{lawful, few, refusal-take}
+use Rattle.examination.specs.Refusal.{settleRefusal}
+use Rattle.examination.proofs.Laws.{settled-terms, settled-marks, settled-few, refusal-take}
 use Rattle.settlement.specs.Settle.{SettleNumbers}
 use Rattle.settlement.proofs.Laws.{settle-settled}
 use Rattle.settlement.proofs.Purchases.{credit-fits, credit-combined}
 use Rattle.settlement.proofs.Demand.{credit-by-status}
 use Rattle.schedule.specs.Schedule.{entryOf}
-use Rattle.schedule.specs.Walk.{walkOf, stepWalk, heldOf, Tables}
+use Rattle.schedule.specs.Walk.{walkOf, stepWalk, heldOf, ScheduledTables}
 
-module _ (t : Terms) (marks lower upper : List ℕ) (tables : Tables t marks lower upper) where
-  none : settleRefusal t marks ≡ 0
+module _ (t : Terms) (marks lower upper : List ℕ) (tables : ScheduledTables t marks lower upper) where
+  none : settleRefusal t marks .number ≡ 0
   none = tables .none-refused
 
   -- one step of the walk is one mark more
@@ -37,17 +37,17 @@ module _ (t : Terms) (marks lower upper : List ℕ) (tables : Tables t marks low
       → stepWalk (walkOf t lower upper (take i marks)) lower upper (getD marks i 0) ≡ walkOf t lower upper (take (i + 1) marks)
   walk-more i h =
       rw (
-        marks-take (t .term) marks i (lawful t marks none .few) h (omega (arith, few t marks none)),
+        marks-take openMonths (t .term) marks i (settled-marks t marks none .few) h (omega (arith, settled-few t marks none)),
         one-mark-more nearest lower nothingYet marks i h,
         one-mark-more nearest upper nothingYet marks i h,
       )
 
   -- each table's credit so far fits 32 bits
-  fits : (years : List ℕ) → ((n : ℕ) → getD years n 0 ≤ capPence) → (i : ℕ)
+  fits : (years : List ℕ) → ((n : ℕ) → getD years n 0 ≤ poundsInPence (t .amount)) → (i : ℕ)
       → creditAt nearest years (afterMarks nearest years nothingYet (take i marks)) < 2 ^ 32
   fits years most i =
       rw (by-runs nearest years (take i marks))
-      (credit-fits years (take i marks) (few t (take i marks) (refusal-take t marks none i)) most)
+      (credit-fits t (settled-terms t marks none) (tables .monthly) years (take i marks) (settled-few t (take i marks) (refusal-take t marks none i)) most)
 
   pub lower-fits : (i : ℕ) → creditAt nearest lower (afterMarks nearest lower nothingYet (take i marks)) < 2 ^ 32
   lower-fits = fits lower (tables .lower-most)
@@ -68,7 +68,7 @@ module _ (t : Terms) (marks lower upper : List ℕ) (tables : Tables t marks low
 
   -- the entry, by the status after the marks so far
   entry-is : (i : ℕ) → entryOf t marks i
-      ≡ pick (eqb (statusOf (t .term) (take (suc i) marks)) 5) 0 (creditOf t (take (suc i) marks))
+      ≡ pick (eqb (statusOf openMonths (t .term) (take (suc i) marks)) 5) 0 (creditOf t (take (suc i) marks))
   unfolding entryOf
   entry-is i =
       ap (λ (n : SettleNumbers). n .credit) (settle-settled t (take (suc i) marks) (refusal-take t marks none (suc i)))
@@ -79,7 +79,7 @@ module _ (t : Terms) (marks lower upper : List ℕ) (tables : Tables t marks low
   entry-held i =
       rw (
         add-one i,
-        status-lawful (t .term) (take (suc i) marks) (lawful t (take (suc i) marks) (refusal-take t marks none (suc i))),
+        status-lawful openMonths (t .term) (take (suc i) marks) (settled-marks t (take (suc i) marks) (refusal-take t marks none (suc i))),
         runs-so-far (suc i),
       )
       (sym (entry-is i))

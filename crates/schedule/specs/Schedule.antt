@@ -25,8 +25,8 @@ pub record ScheduleNumbers : Type 0 where
   pub list : List ℕ
 
 -- document 01's numbers of an answer, beside the list
-abbrev pub numbersOf : Scheduled → List ℕ → ScheduleNumbers
-numbersOf r list = record { refusal = r .refusal; place = r .place; list = list }
+abbrev pub numbersOfSchedule : Scheduled → List ℕ → ScheduleNumbers
+numbersOfSchedule r list = record { refusal = r .refusal; place = r .place; list = list }
 
 -- Settle's refusal with its place, then 14 for a list that is shorter than the marks; neither writes anything
 unfoldable pub scheduleOf : Terms → List ℕ → List ℕ → ScheduleNumbers

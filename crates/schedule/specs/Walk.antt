@@ -1,4 +1,5 @@
--- The marks walked through once, with what both tables' runs have earned so far.
+-- Not rules: the marks walked through once, with what both tables' runs have earned so far. proofs/Laws shows that what is then held is
+-- the entry of the schedule.
 -- Assumes nothing.
 use mathlib.Core.List.{List}
 use mathlib.Core.Path.{_≡_}
@@ -9,20 +10,20 @@ use Rattle.common.specs.Choice.{pick}
 use Rattle.rounding.specs.Nearest.{nearest, combine}
 use Rattle.terms.specs.declared.Terms.{Terms}
 use Rattle.election.specs.declared.TableRates.{TableRates}
-use Rattle.status.specs.Status.{statusFrom}
-use Rattle.marks.specs.Reading.{oneMore, stepBy, marksOf}
-use Rattle.money.specs.Limits.{capPence}
+use Rattle.marks.specs.Reading.{countUp, stepBy, marksReading, statusFrom}
+use Rattle.scheme.specs.Scheme.{openMonths, poundsInPence}
 use Rattle.years.specs.Years.{yearCredits}
-use Rattle.credit.specs.Earned.{nothingYet, creditAt, afterMark, afterMarks, EarnedWithin}
-use Rattle.settlement.specs.Credit.{purchaseIn}
-use Rattle.examination.specs.Examine.{settleRefusal, Monthly}
+use Rattle.years.specs.Elected.{purchaseIn}
+use Rattle.credit.specs.SoFar.{nothingYet, creditAt, afterMark, afterMarks, SoFarWithin}
+use Rattle.examination.specs.Refusal.{settleRefusal}
+use Rattle.examination.specs.Examine.{Monthly}
 use Rattle.schedule.specs.declared.Walk.{Walk}
 
 -- after all of some marks
 abbrev pub walkOf : Terms → List ℕ → List ℕ → List ℕ → Walk
 walkOf t lower upper marks =
     record {
-      reading = marksOf (t .term) marks;
+      reading = marksReading openMonths (t .term) marks;
       lower = afterMarks nearest lower nothingYet marks;
       upper = afterMarks nearest upper nothingYet marks;
     }
@@ -31,7 +32,7 @@ walkOf t lower upper marks =
 abbrev pub stepWalk : Walk → List ℕ → List ℕ → ℕ → Walk
 stepWalk w lower upper mark =
     record {
-      reading = stepBy oneMore (w .reading) mark;
+      reading = stepBy countUp (w .reading) mark;
       lower = afterMark nearest lower (w .lower) mark;
       upper = afterMark nearest upper (w .upper) mark;
     }
@@ -56,26 +57,26 @@ heldOf t w lower upper =
 
 -- what `held` asks: credits that fit
 pub record Holdable (w : Walk) (lower upper : List ℕ) : Type 0 where
-  pub lower-within : EarnedWithin (w .lower)
-  pub upper-within : EarnedWithin (w .upper)
+  pub lower-within : SoFarWithin (w .lower)
+  pub upper-within : SoFarWithin (w .upper)
   pub lower-fits : creditAt nearest lower (w .lower) < 2 ^ 32
   pub upper-fits : creditAt nearest upper (w .upper) < 2 ^ 32
 
 -- terms and marks that are not refused, with the whole-year credits of the needed tables
-pub record Tables (t : Terms) (marks lower upper : List ℕ) : Type 0 where
-  pub none-refused : settleRefusal t marks ≡ 0
+pub record ScheduledTables (t : Terms) (marks lower upper : List ℕ) : Type 0 where
+  pub none-refused : settleRefusal t marks .number ≡ 0
   pub monthly : 0 < t .term
   pub lower-is : lower ≡ yearCredits nearest (purchaseIn t (t .«pnpa_years»))
   pub upper-is : (t .«pnpa_months» ≡ 0 → ⊥) → upper ≡ yearCredits nearest (purchaseIn t (t .«pnpa_years» + 1))
-  pub lower-most : (n : ℕ) → getD lower n 0 ≤ capPence
-  pub upper-most : (n : ℕ) → getD upper n 0 ≤ capPence
+  pub lower-most : (n : ℕ) → getD lower n 0 ≤ poundsInPence (t .amount)
+  pub upper-most : (n : ℕ) → getD upper n 0 ≤ poundsInPence (t .amount)
 
--- what `upper_years` asks: accepted terms of a monthly contract with the rates that they go by, and no year of the only table above the cap
+-- what `upper_years` asks: accepted terms of a monthly contract with the rates that they go by, and no year of the only table above the amount
 pub record UpperAsked (t : Terms) (rates : TableRates) (only : List ℕ) : Type 0 where
   pub monthly : Monthly t rates
-  pub only-most : (n : ℕ) → getD only n 0 ≤ capPence
+  pub only-most : (n : ℕ) → getD only n 0 ≤ poundsInPence (t .amount)
 
 -- what `upper_years` promises: the upper table's whole-year credits with odd months
 pub record UpperYears (t : Terms) (r : List ℕ) : Type 0 where
   pub is : (t .«pnpa_months» ≡ 0 → ⊥) → r ≡ yearCredits nearest (purchaseIn t (t .«pnpa_years» + 1))
-  pub most : (n : ℕ) → getD r n 0 ≤ capPence
+  pub most : (n : ℕ) → getD r n 0 ≤ poundsInPence (t .amount)

@@ -3,9 +3,9 @@ ghost use mathlib.Core.Path.{_≡_};
 ghost use Prim.Native.Nat.{_≤_, _<_, _^_};
 ghost use lib.ListN.{length};
 ghost use Rattle.money.specs.Money.{pension};
-ghost use Rattle.schedule.specs.Schedule.{filledOf, numbersOf, scheduleOf};
-ghost use Rattle.schedule.specs.Walk.{WalkWithin, WalkTold, heldOf, Holdable, Tables, UpperAsked, UpperYears};
-use credit::Earned;
+ghost use Rattle.schedule.specs.Schedule.{filledOf, numbersOfSchedule, scheduleOf};
+ghost use Rattle.schedule.specs.Walk.{WalkWithin, WalkTold, heldOf, Holdable, ScheduledTables, UpperAsked, UpperYears};
+use credit::CreditSoFar;
 use election::TableRates;
 use marks::Reading;
 use money::PensionPence;
@@ -20,8 +20,8 @@ pub struct Scheduled {
 // The marks read so far, and what their runs earned in each table.
 struct Walk {
     reading: Reading,
-    lower: Earned,
-    upper: Earned,
+    lower: CreditSoFar,
+    upper: CreditSoFar,
 }
 
 // One mark more, after i marks.
@@ -48,7 +48,7 @@ fn held(t: Terms, w: Walk, lower: [u32; 21], upper: [u32; 21]) -> PensionPence
     ensures { λ r. ⌜ r ≡ pension (heldOf t w lower upper) ⌝ }
 {
     let reading = w.reading;
-    if status::status(t.term, reading) == 5 {
+    if marks::status(t.term, reading) == 5 {
         return PensionPence::none();
     }
     let only = w.lower;
@@ -62,12 +62,12 @@ fn held(t: Terms, w: Walk, lower: [u32; 21], upper: [u32; 21]) -> PensionPence
 
 // An entry for each mark. Each mark is walked through once.
 fn fill(t: Terms, lower: [u32; 21], upper: [u32; 21], marks: &[u8], out: &mut [u32])
-    requires { ⌜ Tables t (now marks) lower upper ⌝ }
+    requires { ⌜ ScheduledTables t (now marks) lower upper ⌝ }
     requires { ⌜ length (now marks) ≤ length (now out) ⌝ }
     ensures { λ _. ⌜ now (out .exit) ≡ filledOf t (now (marks .entry)) (now (out .entry)) ⌝ }
 {
     let mut w = Walk {
-        reading: marks::start(),
+        reading: marks::start(scheme::OPEN_MONTHS),
         lower: credit::nothing_yet(),
         upper: credit::nothing_yet(),
     };
@@ -87,19 +87,12 @@ fn upper_years(t: Terms, rates: TableRates, only: [u32; 21]) -> [u32; 21]
     if t.pnpa_months == 0 {
         return only;
     }
-    years::year_credits(
-        t.option,
-        t.pnpa_years + 1,
-        t.age,
-        t.term,
-        t.amount / money::STEP,
-        rates.upper,
-    )
+    years::year_credits(t, t.pnpa_years + 1, rates.upper)
 }
 
 // Writes the credit after each mark to the first entries of the lent list. A refusal writes nothing.
 pub fn schedule(t: Terms, marks: &[u8], out: &mut [u32]) -> Scheduled
-    ensures { λ r. ⌜ numbersOf r (now (out .exit)) ≡ scheduleOf t (now (marks .entry)) (now (out .entry)) ⌝ }
+    ensures { λ r. ⌜ numbersOfSchedule r (now (out .exit)) ≡ scheduleOf t (now (marks .entry)) (now (out .entry)) ⌝ }
 {
     let e = examination::examine(t, marks);
     if e.refusal != 0 {
@@ -122,14 +115,7 @@ pub fn schedule(t: Terms, marks: &[u8], out: &mut [u32]) -> Scheduled
         };
     }
     let rates = e.rates;
-    let only = years::year_credits(
-        t.option,
-        t.pnpa_years,
-        t.age,
-        t.term,
-        t.amount / money::STEP,
-        rates.lower,
-    );
+    let only = years::year_credits(t, t.pnpa_years, rates.lower);
     let other = upper_years(t, rates, only);
     fill(t, only, other, marks, out);
     Scheduled {

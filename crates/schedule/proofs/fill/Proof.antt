@@ -7,21 +7,21 @@ use native.Mathlib.Omega.{arith}
 use lib.ListN.{length, take, getD}
 use borrow.Author.Needs.{needs}
 use Rattle.common.proofs.Written.{Written, written-none, written-more, written-list}
-use Rattle.credit.specs.Earned.{nothingYet, afterMarks}
-use Rattle.credit.specs.declared.Earned.{Earned}
+use Rattle.credit.specs.SoFar.{nothingYet, afterMarks}
+use Rattle.credit.specs.declared.CreditSoFar.{CreditSoFar}
 use Rattle.terms.specs.declared.Terms.{Terms}
-use Rattle.marks.proofs.Term.{not-too-many}
+use Rattle.marks.proofs.Term.{few-read}
 use Rattle.marks.specs.Reading.{startOf, readOn}
 use Rattle.marks.specs.declared.Reading.{Reading}
-use Rattle.money.specs.Limits.{capPence}
+use Rattle.scheme.specs.Scheme.{openMonths, capPence}
 use Rattle.money.specs.Money.{pension}
 use Rattle.money.specs.declared.PensionPence.{PensionPence}
 use Rattle.schedule.proofs.Laws.{walk-more, lower-fits, upper-fits, entry-held}
 use Rattle.schedule.specs.Schedule.{entryOf, filledOf}
-use Rattle.schedule.specs.Walk.{walkOf, WalkWithin, WalkTold, heldOf, Holdable, Tables}
+use Rattle.schedule.specs.Walk.{walkOf, WalkWithin, WalkTold, heldOf, Holdable, ScheduledTables}
 use Rattle.schedule.specs.declared.Walk.{Walk}
 use Rattle.settlement.proofs.Bounds.{settle-bounds}
-use Rattle.examination.proofs.Laws.{few}
+use Rattle.examination.proofs.Laws.{settled-few}
 use Rattle.schedule.proofs.fill.Statement.{statement}
 use Rattle.schedule.proofs.fill.Tie as tie
 
@@ -32,19 +32,19 @@ record Progress (t : Terms) (marks lower upper old out : List ℕ) (w : Walk) (i
   within : WalkWithin w i
   written : Written (entryOf t marks) old out i
 
-begun : (t : Terms) (marks lower upper old : List ℕ) {r : Reading} {l u : Earned} → r ≡ startOf → l ≡ nothingYet → u ≡ nothingYet
+begun : (t : Terms) (marks lower upper old : List ℕ) {r : Reading} {l u : CreditSoFar} → r ≡ startOf openMonths → l ≡ nothingYet → u ≡ nothingYet
     → Progress t marks lower upper old old (record { reading = r; lower = l; upper = u }) 0
 unfolding readOn afterMarks
 begun t marks lower upper old r l u =
     rw (r, l, u)
     (record {
       so-far = omega arith;
-      walked = rw (not-too-many (t .term) (take 0 marks) (omega arith));
+      walked = rw (few-read openMonths (t .term) (take 0 marks) (omega arith));
       within = record { lower-month = refl; lower-small = omega arith; upper-month = refl; upper-small = omega arith };
       written = written-none (entryOf t marks) old;
     })
 
-module _ (t : Terms) (marks lower upper : List ℕ) (tables : Tables t marks lower upper) where
+module _ (t : Terms) (marks lower upper : List ℕ) (tables : ScheduledTables t marks lower upper) where
   next : {w r : Walk} (i : ℕ) → i < length marks → w ≡ walkOf t lower upper (take i marks)
       → WalkTold w lower upper (getD marks i 0) i r → r ≡ walkOf t lower upper (take (i + 1) marks)
   next i h e told = told .is ∙ rw e (walk-more t marks lower upper tables i h)
@@ -54,8 +54,8 @@ module _ (t : Terms) (marks lower upper : List ℕ) (tables : Tables t marks low
   holds i h e told =
       let is = next i h e told in
       record {
-        lower-within = record { few = omega (arith, told .within .lower-month, few t marks (tables .none-refused)); small = omega (arith, told .within .lower-month, told .within .lower-small) };
-        upper-within = record { few = omega (arith, told .within .upper-month, few t marks (tables .none-refused)); small = omega (arith, told .within .upper-month, told .within .upper-small) };
+        lower-within = record { few = omega (arith, told .within .lower-month, settled-few t marks (tables .none-refused)); small = omega (arith, told .within .lower-month, told .within .lower-small) };
+        upper-within = record { few = omega (arith, told .within .upper-month, settled-few t marks (tables .none-refused)); small = omega (arith, told .within .upper-month, told .within .upper-small) };
         lower-fits = rw is (lower-fits t marks lower upper tables (i + 1));
         upper-fits = rw is (upper-fits t marks lower upper tables (i + 1));
       }
@@ -96,7 +96,7 @@ shared-slice-read-walk-on : tie.Need-shared-slice-read-walk-on Inv-loop μ-loop
 shared-slice-read-walk-on c = search needs
 
 walk-on-requires : tie.Need-walk-on-requires Inv-loop μ-loop
-walk-on-requires c κs = (c .before .before .loop .inv .within, omega (arith, few _ _ (c .before .before .before .before .before .before .before .before .pre .0 .none-refused)))
+walk-on-requires c κs = (c .before .before .loop .inv .within, omega (arith, settled-few _ _ (c .before .before .before .before .before .before .before .before .pre .0 .none-refused)))
 
 held-requires : tie.Need-held-requires Inv-loop μ-loop
 held-requires c κs = holds _ _ _ _ (c .before .before .before .before .before .before .before .before .before .pre .0) _ (c .before .before .loop-test .taken) (c .before .before .before .loop .inv .walked) (c .walk-on .ensures)

@@ -14,8 +14,9 @@ use Rattle.settlement.specs.Settle.{settleOf}
 use Rattle.settlement.proofs.Laws.{settle-refused, settle-refusal}
 use Rattle.settlement.proofs.Purchases.{lower-asked}
 use Rattle.examination.proofs.Examination.{examined-told, examined-none, examined-monthly}
-use Rattle.examination.proofs.Laws.{lawful, examined-refused}
-use Rattle.examination.specs.Examine.{settleRefusal, examinedOf, Monthly}
+use Rattle.examination.proofs.Laws.{settled-marks, examined-refused}
+use Rattle.examination.specs.Refusal.{settleRefusal}
+use Rattle.examination.specs.Examine.{examinedOf, Monthly}
 use Rattle.examination.specs.declared.Examined.{Examined}
 use Rattle.schedule.proofs.schedule.Statement.{statement}
 use Rattle.schedule.proofs.schedule.Tie as tie
@@ -28,15 +29,15 @@ module _ (t : Terms) (marks list : List ℕ) where
       → _≡_ {A = ScheduleNumbers} (record { refusal = e .refusal; place = e .place; list = list }) (scheduleOf t marks list)
   unfolding scheduleOf
   refused is some =
-      let refuses : settleRefusal t marks ≡ 0 → ⊥ = λ z. some (examined-told t marks is ∙ z) in
-      rw (is, examined-refused t marks refuses, settle-refused t marks refuses, ne-eqb (settleRefusal t marks) 0 refuses)
+      let refuses : settleRefusal t marks .number ≡ 0 → ⊥ = λ z. some (examined-told t marks is ∙ z) in
+      rw (is, examined-refused t marks refuses, settle-refused t marks refuses, ne-eqb (settleRefusal t marks .number) 0 refuses)
 
-  short : settleRefusal t marks ≡ 0 → length list < length marks
+  short : settleRefusal t marks .number ≡ 0 → length list < length marks
       → _≡_ {A = ScheduleNumbers} (record { refusal = 14; place = 0; list = list }) (scheduleOf t marks list)
   unfolding scheduleOf
   short none h = rw (eq-eqb (settleOf t marks .refusal) 0 (settle-refusal t marks ∙ none), lt-ltb (length list) (length marks) h)
 
-  filled : settleRefusal t marks ≡ 0 → length marks ≤ length list
+  filled : settleRefusal t marks .number ≡ 0 → length marks ≤ length list
       → _≡_ {A = ScheduleNumbers} (record { refusal = 0; place = 0; list = filledOf t marks list }) (scheduleOf t marks list)
   unfolding scheduleOf
   filled none h = rw (eq-eqb (settleOf t marks .refusal) 0 (settle-refusal t marks ∙ none), le-ltb (length list) (length marks) h)
@@ -51,7 +52,7 @@ monthly-terms : (t : Terms) (marks : List ℕ) {e : Examined} → e ≡ examined
     → Monthly t (e .rates)
 monthly-terms t marks is z some =
     let none = examined-none t marks is z in
-    examined-monthly t marks is none (omega (arith, lawful t marks none .few))
+    examined-monthly t marks is none (omega (arith, settled-marks t marks none .few))
 
 examine-requires : tie.Need-examine-requires
 examine-requires c κs = search needs
@@ -74,17 +75,17 @@ monthly-here c = monthly-terms _ _ (c .before .before .before .before .examine .
 
 year-credits-requires : tie.Need-year-credits-requires
 year-credits-requires c κs =
-    let m = monthly-here (c .before .before) in
-    lower-asked _ (m .accepted) (m .some-years) (m .rates-are)
+    let m = monthly-here (c .before) in
+    lower-asked _ (m .passes) (m .some-years) (m .rates-are)
 
 upper-years-requires : tie.Need-upper-years-requires
 upper-years-requires c κs =
-    let m = monthly-here (c .before .before .before) in
-    record { monthly = m; only-most = λ n. omega (arith, c .year-credits .ensures .1 n, m .accepted .under-cap) }
+    let m = monthly-here (c .before .before) in
+    record { monthly = m; only-most = c .year-credits .ensures .1 }
 
 fill-requires : tie.Need-fill-requires
 fill-requires c κs =
-    let b = c .before .before .before .before .before in
+    let b = c .before .before .before .before in
     let m = monthly-here b in
     let y = c .before .before .year-credits .ensures in
     let u = c .before .upper-years .ensures in (
@@ -93,7 +94,7 @@ fill-requires c κs =
         monthly = m .some-years;
         lower-is = y .0;
         upper-is = u .is;
-        lower-most = λ n. omega (arith, y .1 n, m .accepted .under-cap);
+        lower-most = y .1;
         upper-most = u .most;
       },
       b .before .if2 .left,
@@ -105,7 +106,7 @@ same-length c = search needs
 returns-4 : tie.Need-returns-4
 unfolding at-list
 returns-4 c =
-    let b = c .before .before .before .before .before .before .before .before .before in
+    let b = c .before .before .before .before .before .before .before .before in
     let none = examined-none _ _ (b .before .before .before .examine .ensures) (b .before .if1 .left) in
     ap at-list (c .before .before .fill .ensures) ∙ filled _ _ _ none (b .if2 .left)
 

@@ -9,18 +9,17 @@ returns : tie.Need-returns
 returns c = record { is = λ odd. absurd (odd (c .if1 .taken)); most = c .before .before .pre .only-most }
 
 add-year-credits : tie.Need-add-year-credits
-add-year-credits c = omega (arith, c .before .before .before .pre .monthly .accepted .pension-age .age-high)
+add-year-credits c = omega (arith, c .before .before .before .pre .monthly .passes .pension-age .age-high)
 
 year-credits-requires : tie.Need-year-credits-requires
 year-credits-requires c κs =
-    let m = c .before .before .before .before .pre .monthly in
-    upper-asked _ (m .accepted) (m .some-years) (m .rates-are) (c .before .before .if1 .left)
+    let m = c .before .before .before .pre .monthly in
+    upper-asked _ (m .passes) (m .some-years) (m .rates-are) (c .before .if1 .left)
 
 returns-2 : tie.Need-returns-2
 returns-2 c =
     let y = c .year-credits .ensures in
-    let a = c .before .before .before .before .before .pre .monthly .accepted in
-    record { is = λ odd. y .0; most = λ n. omega (arith, y .1 n, a .under-cap) }
+    record { is = λ odd. y .0; most = y .1 }
 
 pub upper-years-spec : {M : Type 1} → statement M
 upper-years-spec = tie.close (tie.spec returns add-year-credits year-credits-requires returns-2)
