@@ -45,6 +45,12 @@ module _ (t : Terms) (ms : List ℕ) where
   settled-marks z =
       marks-lawful openMonths (t .term) ms (sym (ap (λ (r : RefusedAt). r .number) (refused-by-marks (terms-unrefused z))) ∙ z)
 
+  -- nothing refused has no place
+  pub unrefused-place : settleRefusal t ms .number ≡ 0 → settleRefusal t ms .place ≡ 0
+  unrefused-place z =
+      ap (λ (r : RefusedAt). r .place)
+      (refused-by-marks (terms-unrefused z) ∙ marks-unrefused openMonths (t .term) ms (settled-marks z))
+
   -- no more marks than the longest term has
   pub settled-few : settleRefusal t ms .number ≡ 0 → length ms ≤ mostMarks
   settled-few z = omega (arith, settled-marks z .few, settled-terms z .term-high)

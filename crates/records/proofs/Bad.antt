@@ -6,12 +6,14 @@ use Prim.Native.Nat.{_<_, _≤_}
 use borrow.Author.Tests.{lt-ltb, le-ltb, eq-eqb, ne-eqb, ltb-false, eqb-true, eqb-false, not-false}
 use lib.Dec.{ltb, eqb}
 use Rattle.common.proofs.Tests.{or-true, or-false, by-test}
+use Rattle.scheme.specs.Scheme.{mostMarks}
 use Rattle.money.specs.Money.{pension}
 use Rattle.settlement.specs.Settle.{SettleNumbers}
 use Rattle.settlement.proofs.Laws.{settle-refused, settle-refusal}
 use Rattle.records.specs.declared.Contract.{Contract}
 use Rattle.records.specs.declared.RecordCheck.{RecordCheck}
-use Rattle.records.specs.Record.{usedMarks, unusedMarks, settledRecord, allZero, badRecord, badCheck, checkOf}
+use Rattle.records.specs.Record.{usedMarks, unusedMarks, settledRecord, allZero, badRecord}
+use Rattle.records.specs.Check.{badCheck, checkOf}
 
 -- what the check answers where Settle gives these numbers
 abbrev answerOf : SettleNumbers → RecordCheck
@@ -22,9 +24,9 @@ module _ (c : Contract) where
   unfolding badRecord
   refused-bad h = rw (ne-eqb (settledRecord c .refusal) 0 h)
 
-  pub count-bad : 240 < c .count → badRecord c ≡ true
+  pub count-bad : mostMarks < c .count → badRecord c ≡ true
   unfolding badRecord
-  count-bad h = rw (lt-ltb 240 (c .count) h) (or-true (not (eqb (settledRecord c .refusal) 0)))
+  count-bad h = rw (lt-ltb mostMarks (c .count) h) (or-true (not (eqb (settledRecord c .refusal) 0)))
 
   pub unused-bad : allZero (unusedMarks c) ≡ false → badRecord c ≡ true
   unfolding badRecord
@@ -33,18 +35,18 @@ module _ (c : Contract) where
   -- what holds of a record that is not bad
   pub record Good : Type 0 where
     pub settled : settledRecord c .refusal ≡ 0
-    pub few : c .count ≤ 240
+    pub few : c .count ≤ mostMarks
     pub zeros : allZero (unusedMarks c) ≡ true
 
   pub good-record : Good → badRecord c ≡ false
   unfolding badRecord
-  good-record g = rw (eq-eqb (settledRecord c .refusal) 0 (g .settled), le-ltb 240 (c .count) (g .few), g .zeros)
+  good-record g = rw (eq-eqb (settledRecord c .refusal) 0 (g .settled), le-ltb mostMarks (c .count) (g .few), g .zeros)
 
   pub not-bad : badRecord c ≡ false → Good
   unfolding badRecord
   not-bad e =
       let first = or-false (not (eqb (settledRecord c .refusal) 0)) _ e in
-      let rest = or-false (ltb 240 (c .count)) _ (first .1) in
+      let rest = or-false (ltb mostMarks (c .count)) _ (first .1) in
       record {
         settled = eqb-true _ _ (not-false _ (first .0));
         few = ltb-false _ _ (rest .0);
@@ -58,7 +60,7 @@ module _ (c : Contract) where
   bad-check e = rw e
 
   -- what Settle says of the marks in use decides, where the other two faults are not there
-  settled-check : c .count ≤ 240 → allZero (unusedMarks c) ≡ true → answerOf (settledRecord c) ≡ checkOf c
+  settled-check : c .count ≤ mostMarks → allZero (unusedMarks c) ≡ true → answerOf (settledRecord c) ≡ checkOf c
   unfolding checkOf
   settled-check few zeros =
       by-test (eqb (settledRecord c .refusal) 0)
@@ -69,7 +71,7 @@ module _ (c : Contract) where
       let none = ap (λ (n : SettleNumbers). n .credit) (settle-refused (c .terms) (usedMarks c) (λ e. some (settle-refusal (c .terms) (usedMarks c) ∙ e))) in
       rw (z, refused-bad some, none))
 
-  pub told-check : (n : SettleNumbers) → n ≡ settledRecord c → c .count ≤ 240 → allZero (unusedMarks c) ≡ true → answerOf n ≡ checkOf c
+  pub told-check : (n : SettleNumbers) → n ≡ settledRecord c → c .count ≤ mostMarks → allZero (unusedMarks c) ≡ true → answerOf n ≡ checkOf c
   told-check n e few zeros = ap answerOf e ∙ settled-check few zeros
 
   -- the check's answer on a record is the definition's

@@ -9,22 +9,23 @@ use native.Mathlib.Numerals.{add-one}
 use native.Mathlib.Omega.{arith}
 use lib.ListN.{length, length-set}
 use lib.Seq.{append-snoc, drop-set-lt, take-suc-set, take-append-seam}
+use Rattle.scheme.specs.Scheme.{mostMarks}
 use Rattle.terms.specs.declared.Terms.{Terms}
 use Rattle.settlement.specs.Settle.{settleOf}
 use Rattle.examination.proofs.Laws.{refusal-take}
 use Rattle.settlement.proofs.Laws.{settle-refusal}
 use Rattle.records.specs.declared.Contract.{Contract}
 use Rattle.records.specs.Record.{usedMarks, allZero, badRecord}
-use Rattle.records.specs.Post.{postRefusal, postOf, written, postedRecord}
+use Rattle.records.specs.Post.{postOf, withMark, postedRecord}
 use Rattle.records.specs.History.{freshRecord, postedAll, NoneRefused, Holds}
 use Rattle.records.proofs.Zeros.{zeros-further}
 use Rattle.records.proofs.Bad.{Good, good-record, not-bad}
-use Rattle.records.proofs.Posting.{taken, good-refused, success-record}
+use Rattle.records.proofs.Posting.{taken, good-refusal, success-record}
 
--- One posting that is not refused, into a record of 240 marks, as every record in memory is.
-module _ (c : Contract) (m : ℕ) (full : length (c .marks) ≡ 240) (z : postRefusal c m ≡ 0) where
+-- One posting that is not refused, into a record with room for the most marks, as every record in memory is.
+module _ (c : Contract) (m : ℕ) (full : length (c .marks) ≡ mostMarks) (z : postOf c m .refusal ≡ 0) where
   next : Contract
-  next = written c (c .count) m (c .count + 1)
+  next = withMark c (c .count) m (c .count + 1)
 
   is-next : postedRecord c m ≡ next
   unfolding next
@@ -48,7 +49,7 @@ module _ (c : Contract) (m : ℕ) (full : length (c .marks) ≡ 240) (z : postRe
   pub posted-good : badRecord (postedRecord c m) ≡ false
   posted-good = rw is-next (good-record next next-good)
 
-  posted-full : length (postedRecord c m .marks) ≡ 240
+  posted-full : length (postedRecord c m .marks) ≡ mostMarks
   unfolding next
   posted-full = rw (is-next, length-set) full
 
@@ -70,8 +71,8 @@ record Grown (c d : Contract) (ms : List ℕ) : Type 0 where
   count : d .count ≡ c .count + length ms
   marks : usedMarks d ≡ usedMarks c ++ ms
 
-grown : (c : Contract) (ms : List ℕ) → length (c .marks) ≡ 240 → NoneRefused c ms → Grown c (postedAll c ms) ms
-unfolding postedAll NoneRefused postOf
+grown : (c : Contract) (ms : List ℕ) → length (c .marks) ≡ mostMarks → NoneRefused c ms → Grown c (postedAll c ms) ms
+unfolding postedAll NoneRefused
 grown c [] full none = record { terms = refl; count = omega arith; marks = sym (append-nil _) }
 grown c (m ∷ ms) full none =
     let z = none .0 in
@@ -101,13 +102,13 @@ accepted-first t xs ys e =
     settle-refusal t xs
     ∙ rw (take-append-seam xs ys) at (refusal-take t (xs ++ ys) (sym (settle-refusal t (xs ++ ys)) ∙ e) (length xs))
 
-postable : (c : Contract) (ms : List ℕ) → length (c .marks) ≡ 240 → badRecord c ≡ false
+postable : (c : Contract) (ms : List ℕ) → length (c .marks) ≡ mostMarks → badRecord c ≡ false
     → settleOf (c .terms) (usedMarks c ++ ms) .refusal ≡ 0 → NoneRefused c ms
-unfolding NoneRefused postOf
+unfolding NoneRefused
 postable c [] full good e = tt
 postable c (m ∷ ms) full good e =
     let again = rw (← append-snoc) at e in
-    let z = good-refused c m good ∙ accepted-first (c .terms) (usedMarks c ++ (m ∷ [])) ms again in (
+    let z = good-refusal c m good ∙ accepted-first (c .terms) (usedMarks c ++ (m ∷ [])) ms again in (
       z,
       postable (postedRecord c m) ms (posted-full c m full z) (posted-good c m full z)
           (rw (posted-terms c m full z, posted-marks c m full z) again),

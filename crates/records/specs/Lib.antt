@@ -1,3 +1,5 @@
 pub mod Record
+pub mod Check
 pub mod Post
+pub mod Decision
 pub mod History

@@ -1,41 +1,30 @@
 -- Document 01, "What each operation gives", Post a month.
 -- Assumes nothing.
-use mathlib.Core.Bool.{_||_}
 use mathlib.Core.List.{[], _∷_, _++_}
-use mathlib.Core.Path.{_≡_}
-use Prim.Native.Nat.{ℕ, _+_, _<_}
+use Prim.Native.Nat.{ℕ, _+_}
 use lib.Dec.{eqb}
 use lib.ListN.{set}
 use Rattle.common.specs.Choice.{pick}
-use Rattle.settlement.specs.Settle.{settleOf}
+use Rattle.settlement.specs.Settle.{SettleNumbers, settleOf}
 use Rattle.records.specs.declared.Contract.{Contract}
 use Rattle.records.specs.declared.Posted.{Posted}
-use Rattle.records.specs.declared.Entry.{Entry}
 use Rattle.records.specs.Record.{usedMarks, badRecord}
 
--- a bad record comes first; then what Settle says of the marks with the new one at their end
-unfoldable pub postRefusal : Contract → ℕ → ℕ
-postRefusal c m = pick (badRecord c) 13 (settleOf (c .terms) (usedMarks c ++ (m ∷ [])) .refusal)
+-- Settle of the record with a new mark after those in use
+abbrev pub settledWith : Contract → (mark : ℕ) → SettleNumbers
+settledWith c m = settleOf (c .terms) (usedMarks c ++ (m ∷ []))
 
--- where the new mark was to stand, if it is the mark that is refused
-unfoldable pub placeOf : ℕ → ℕ → ℕ
-placeOf refusal count = pick (eqb refusal 11 || eqb refusal 12) count 0
-
--- what posting answers
-unfoldable pub postOf : Contract → ℕ → Posted
-postOf c m = record { refusal = postRefusal c m; place = placeOf (postRefusal c m) (c .count) }
+-- what posting answers: 13 for a bad record; then what Settle refuses with the new mark, and where. Of a record that is not bad that is the
+-- new mark, at the record's count, or 10 with no place (proofs/Place.antt).
+unfoldable pub postOf : Contract → (mark : ℕ) → Posted
+postOf c m =
+    pick (badRecord c) (record { refusal = 13; place = 0 })
+    (record { refusal = settledWith c m .refusal; place = settledWith c m .place })
 
 -- a record in which one mark and the count are written, and nothing else
-abbrev pub written : Contract → ℕ → ℕ → ℕ → Contract
-written c i m n = record { terms = c .terms; marks = set (c .marks) i m; count = n }
+abbrev pub withMark : Contract → (index mark count : ℕ) → Contract
+withMark c i m n = record { terms = c .terms; marks = set (c .marks) i m; count = n }
 
 -- the record afterwards: success adds the mark after those in use; a refusal changes nothing
-unfoldable pub postedRecord : Contract → ℕ → Contract
-postedRecord c m = pick (eqb (postRefusal c m) 0) (written c (c .count) m (c .count + 1)) c
-
--- what is decided of a posting before anything is written: its answer, and one mark and a count that make of the
--- record what posting makes of it
-pub record Decided (c : Contract) (m : ℕ) (e : Entry) : Type 0 where
-  pub inside : e .at < 240
-  pub answer : e .posted ≡ postOf c m
-  pub makes : written c (e .at) (e .mark) (e .count) ≡ postedRecord c m
+unfoldable pub postedRecord : Contract → (mark : ℕ) → Contract
+postedRecord c m = pick (eqb (postOf c m .refusal) 0) (withMark c (c .count) m (c .count + 1)) c

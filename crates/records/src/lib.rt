@@ -1,17 +1,21 @@
 // The contract record, and posting a month in its own memory.
 ghost use mathlib.Core.Path.{_≡_};
 ghost use lib.ListN.{drop};
-ghost use Rattle.records.specs.Record.{allZero, badCheck, checkOf};
+ghost use Rattle.records.specs.Record.{allZero};
+ghost use Rattle.records.specs.Check.{badCheck, checkOf};
+ghost use Rattle.records.specs.Post.{postOf, postedRecord};
+ghost use Rattle.records.specs.Decision.{Decided};
 ghost use Rattle.records.specs.History.{freshRecord};
-ghost use Rattle.records.specs.Post.{postRefusal, placeOf, postOf, postedRecord, Decided};
+use common::MONTHS_IN_YEAR;
 use money::PensionPence;
+use scheme::MOST_MARKS;
 use settlement::Settlement;
 use terms::Terms;
 
 // The marks before the count are in use; the others are 0.
 pub struct Contract {
     pub terms: Terms,
-    pub marks: [u8; 240],
+    pub marks: [u8; MOST_MARKS],
     pub count: usize,
 }
 
@@ -21,7 +25,7 @@ pub fn fresh_record(terms: Terms) -> Contract
 {
     Contract {
         terms,
-        marks: [0u8; 240],
+        marks: [0u8; MOST_MARKS],
         count: 0,
     }
 }
@@ -39,7 +43,7 @@ pub struct Posted {
 }
 
 // What a posting comes to: its answer, the one mark that is written and the count.
-struct Entry {
+struct Decision {
     at: usize,
     mark: u8,
     count: usize,
@@ -76,7 +80,7 @@ pub fn check_record(c: Contract) -> RecordCheck
 {
     let count = c.count;
     let marks = c.marks;
-    if count > 240 {
+    if count > MOST_MARKS {
         return found_bad();
     }
     if !all_zero(&marks, count) {
@@ -89,48 +93,44 @@ pub fn check_record(c: Contract) -> RecordCheck
 }
 
 // 13 for a bad record; then 10, 11 or 12 as the marks with the new one are refused.
-fn post_refusal(c: Contract, mark: u8) -> u32
-    ensures { λ r. ⌜ r ≡ postRefusal c mark ⌝ }
+fn answer(c: Contract, mark: u8) -> Posted
+    ensures { λ r. ⌜ r ≡ postOf c mark ⌝ }
 {
     let check = check_record(c);
     if check.bad {
-        return 13;
+        return Posted {
+            refusal: 13,
+            place: 0,
+        };
     }
     let term = c.terms.term;
     let count = c.count;
     let marks = c.marks;
-    if count >= 12 * (term as usize) {
-        return 10;
+    if count >= MONTHS_IN_YEAR as usize * (term as usize) {
+        return Posted {
+            refusal: 10,
+            place: 0,
+        };
     }
-    marks::step(marks::read_marks(&marks[..count], term), mark).refusal
-}
-
-// The place of a refusal: the count for 11 and 12.
-fn place(refusal: u32, count: usize) -> usize
-    ensures { λ r. ⌜ r ≡ placeOf refusal count ⌝ }
-{
-    if refusal == 11 {
-        return count;
+    let read = marks::step(
+        marks::read_marks(&marks[..count], scheme::OPEN_MONTHS, term),
+        mark,
+    );
+    Posted {
+        refusal: read.refusal,
+        place: read.place,
     }
-    if refusal == 12 {
-        return count;
-    }
-    0
 }
 
 // A refusal writes what stands there already, so that `post` has no branch.
-fn decide(c: Contract, mark: u8) -> Entry
+fn decide(c: Contract, mark: u8) -> Decision
     ensures { λ r. ⌜ Decided c mark r ⌝ }
 {
-    let refusal = post_refusal(c, mark);
+    let posted = answer(c, mark);
     let count = c.count;
-    let posted = Posted {
-        refusal,
-        place: place(refusal, count),
-    };
-    if refusal == 0 {
+    if posted.refusal == 0 {
         let next = count + 1;
-        return Entry {
+        return Decision {
             at: count,
             mark,
             count: next,
@@ -138,7 +138,7 @@ fn decide(c: Contract, mark: u8) -> Entry
         };
     }
     let marks = c.marks;
-    Entry {
+    Decision {
         at: 0,
         mark: marks[0],
         count,
@@ -151,9 +151,9 @@ pub fn post(c: &mut Contract, mark: u8) -> Posted
     ensures { λ r. ⌜ (r ≡ postOf (now (c .entry)) mark) × (now (c .exit) ≡ postedRecord (now (c .entry)) mark) ⌝ }
 {
     let held = *c;
-    let entry = decide(held, mark);
-    let at = entry.at;
-    c.marks[at] = entry.mark;
-    c.count = entry.count;
-    entry.posted
+    let decision = decide(held, mark);
+    let at = decision.at;
+    c.marks[at] = decision.mark;
+    c.count = decision.count;
+    decision.posted
 }

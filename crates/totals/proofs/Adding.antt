@@ -10,20 +10,21 @@ use borrow.Author.Tests.{le-ltb, ltb-false}
 use lib.Dec.{ltb}
 use lib.ListN.{length, take, getD, replicate}
 use lib.Seq.{take-all, length-take-le}
-use Rattle.money.specs.Limits.{capPence}
+use Rattle.scheme.specs.Scheme.{capPence, mostMarks}
 use Rattle.common.proofs.Tests.{or-false}
 use Rattle.settlement.proofs.Bounds.{settle-bounds}
 use Rattle.records.specs.declared.Contract.{Contract}
 use Rattle.totals.specs.declared.Tally.{Tally}
 use Rattle.records.specs.Record.{usedMarks, settledRecord, badRecord}
-use Rattle.totals.specs.Total.{creditSum, anyBad, firstBadRecord, totalling, memberTotalOf, openingOf, addOf}
+use Rattle.totals.specs.Total.{mostRecords, creditSum, anyBad, firstBadRecord, totalling, memberTotalOf}
+use Rattle.totals.specs.Tally.{openingOf, addOf}
 
 -- what stands past the end of a list of records
 abbrev pub blank : Contract
 blank =
     record {
       terms = record { age = 0; «pnpa_years» = 0; «pnpa_months» = 0; option = 0; payer = 0; term = 0; amount = 0 };
-      marks = replicate 240 0;
+      marks = replicate mostMarks 0;
       count = 0;
     }
 
@@ -65,23 +66,23 @@ first-bad (c ∷ cs) (suc i) h g b =
 -- where the loop stands at an index with a tally: it is over, with the total; or the records before are good and added
 pub data Stands (cs : List Contract) (i : ℕ) (t : Tally) : Type 0 where
   over : t .end ≡ 0 → t .total ≡ memberTotalOf cs → Stands cs i t
-  going : i ≤ length cs → length cs ≤ 64 → anyBad (take i cs) ≡ false
+  going : i ≤ length cs → length cs ≤ mostRecords → anyBad (take i cs) ≡ false
       → t ≡ record { end = length cs; total = totalling (creditSum (take i cs)) } → Stands cs i t
 
 pub stands-first : (cs : List Contract) (t : Tally) → t ≡ openingOf (length cs) → Stands cs 0 t
 unfolding openingOf memberTotalOf anyBad creditSum
-stands-first cs t e = go (ltb 64 (length cs)) refl
+stands-first cs t e = go (ltb mostRecords (length cs)) refl
   where
-    go : (b : Bool) → ltb 64 (length cs) ≡ b → Stands cs 0 t
+    go : (b : Bool) → ltb mostRecords (length cs) ≡ b → Stands cs 0 t
     go true b = let s = rw b at e in over (ap (λ (t : Tally). t .end) s) (ap (λ (t : Tally). t .total) s ∙ rw b)
-    go false b = going (omega arith) (ltb-false 64 (length cs) b) refl (rw b at e)
+    go false b = going (omega arith) (ltb-false mostRecords (length cs) b) refl (rw b at e)
 
 module _ (cs : List Contract) (i : ℕ) (t : Tally) where
   pub stands-inside : Stands cs i t → i < t .end → i < length cs
   stands-inside (over z e) h = absurd (omega arith)
   stands-inside (going l m g e) h = omega (arith, ap (λ (t : Tally). t .end) e)
 
-  pub stands-bound : Stands cs i t → i < t .end → t .total .credit .0 ≤ 64 * capPence
+  pub stands-bound : Stands cs i t → i < t .end → t .total .credit .0 ≤ mostRecords * capPence
   stands-bound (over z e) h = absurd (omega arith)
   stands-bound (going l m g e) h =
       omega (arith, ap (λ (t : Tally). t .total .credit .0) e, sum-most (take i cs), length-take-le i cs l)
@@ -91,7 +92,7 @@ module _ (cs : List Contract) (i : ℕ) (t : Tally) where
   stands-last (over z e) h = e
   stands-last (going l m g e) h =
       let all = take-all i cs (omega (arith, ap (λ (t : Tally). t .end) e)) in
-      ap (λ (t : Tally). t .total) e ∙ rw (all, le-ltb 64 (length cs) m, rw all at g)
+      ap (λ (t : Tally). t .total) e ∙ rw (all, le-ltb mostRecords (length cs) m, rw all at g)
 
   pub stands-next : Stands cs i t → i < t .end → (r : Tally) → r ≡ addOf t (at cs i) i → Stands cs (i + 1) r
   unfolding addOf memberTotalOf
@@ -105,7 +106,7 @@ module _ (cs : List Contract) (i : ℕ) (t : Tally) where
       go true b =
           let first = first-bad cs i inside g b in
           let s = rw b at d in
-          over (ap (λ (t : Tally). t .end) s) (ap (λ (t : Tally). t .total) s ∙ rw (le-ltb 64 (length cs) m, first .0, first .1))
+          over (ap (λ (t : Tally). t .end) s) (ap (λ (t : Tally). t .total) s ∙ rw (le-ltb mostRecords (length cs) m, first .0, first .1))
       go false b =
           let s = rw b at d in
           going (omega (arith, inside)) m (rw add-one (good-more cs i inside g b)) (s ∙ rw (e, add-one, sum-more cs i inside))

@@ -9,8 +9,11 @@ use Rattle.common.specs.Choice.{pick}
 use Rattle.money.specs.Money.{pension}
 use Rattle.records.specs.declared.Contract.{Contract}
 use Rattle.totals.specs.declared.Total.{Total}
-use Rattle.totals.specs.declared.Tally.{Tally}
 use Rattle.records.specs.Record.{settledRecord, badRecord}
+
+-- the most records of a total
+abbrev pub mostRecords : ℕ
+mostRecords = 64
 
 -- the credits of the records added up, an empty list giving 0
 unfoldable pub creditSum : List Contract → ℕ
@@ -35,24 +38,8 @@ refusedTotal n i = record { refusal = n; index = i; credit = pension 0 }
 abbrev pub totalling : ℕ → Total
 totalling sum = record { refusal = 0; index = 0; credit = pension sum }
 
--- a list of more than 64 records is refused unseen; then the first bad record is named; else the credits are added up
+-- a longer list of records is refused unseen; then the first bad record is named; else the credits are added up
 unfoldable pub memberTotalOf : List Contract → Total
 memberTotalOf cs =
-    pick (ltb 64 (length cs)) (refusedTotal 14 0)
+    pick (ltb mostRecords (length cs)) (refusedTotal 14 0)
     (pick (anyBad cs) (refusedTotal 13 (firstBadRecord cs)) (totalling (creditSum cs)))
-
--- The tally that the code keeps.
-
--- no record more is added after a refusal
-abbrev pub refusedWith : ℕ → ℕ → Tally
-refusedWith n i = record { end = 0; total = refusedTotal n i }
-
--- before any of n records
-unfoldable pub openingOf : ℕ → Tally
-openingOf n = pick (ltb 64 n) (refusedWith 14 0) (record { end = n; total = totalling 0 })
-
--- with the record c at the index i
-unfoldable pub addOf : Tally → Contract → ℕ → Tally
-addOf t c i =
-    pick (badRecord c) (refusedWith 13 i)
-    (record { end = t .end; total = totalling (t .total .credit .0 + settledRecord c .credit) })

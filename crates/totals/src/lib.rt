@@ -1,8 +1,9 @@
 // A member's total over a list of contract records.
 ghost use mathlib.Core.Path.{_≡_};
 ghost use Prim.Native.Nat.{_*_, _≤_};
-ghost use Rattle.money.specs.Limits.{capPence};
-ghost use Rattle.totals.specs.Total.{openingOf, addOf, memberTotalOf};
+ghost use Rattle.scheme.specs.Scheme.{capPence};
+ghost use Rattle.totals.specs.Total.{mostRecords, memberTotalOf};
+ghost use Rattle.totals.specs.Tally.{openingOf, addOf};
 use money::PensionPence;
 use records::Contract;
 
@@ -49,7 +50,7 @@ fn opening(n: usize) -> Tally
 
 // The tally with the record at an index.
 fn add(t: Tally, c: Contract, index: usize) -> Tally
-    requires { ⌜ t .total .credit .0 ≤ 64 * capPence ⌝ }
+    requires { ⌜ t .total .credit .0 ≤ mostRecords * capPence ⌝ }
     ensures { λ r. ⌜ r ≡ addOf t c index ⌝ }
 {
     let check = records::check_record(c);

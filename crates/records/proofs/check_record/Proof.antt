@@ -5,7 +5,7 @@ use native.Mathlib.Omega.{arith}
 use borrow.Author.Needs.{needs}
 use borrow.Author.Tests.{ltb-true, not-true, not-false}
 use lib.Seq.{length-take-le}
-use Rattle.settlement.specs.Settle.{numbersOf, isRefused}
+use Rattle.settlement.specs.Settle.{numbersOfSettlement, settlementIsRefused}
 use Rattle.records.specs.Record.{settledRecord}
 use Rattle.records.proofs.Bad.{refused-bad, count-bad, unused-bad, bad-check, told-check}
 use Rattle.records.proofs.Cells.{marks-length}
@@ -60,14 +60,14 @@ enum-known-credit c = search needs
 returns-3 : tie.Need-returns-3
 returns-3 c =
     let x = c .before .before .before .before .before .before .before .before .before .before .args .c in
-    let told = sym (c .before .before .before .settle .ensures .1 .1 .1) ∙ ap isRefused (c .before .enum-told .given .1) in
+    let told = sym (c .before .before .before .settle .ensures .1 .1 .1) ∙ ap settlementIsRefused (c .before .enum-told .given .1) in
     c .found-bad3 .ensures ∙ bad-check x (refused-bad x (λ z. omega (arith, ltb-true 0 (settledRecord x .refusal) told, z)))
 
 returns-4 : tie.Need-returns-4
 returns-4 c =
     let d = c .before .before .before .before .before in
     let first = d .before .before .before in
-    told-check (first .before .before .args .c) _ (sym (ap numbersOf (c .before .credit .given .1)) ∙ c .before .before .before .settle .ensures .0) (first .if1 .left)
+    told-check (first .before .before .args .c) _ (sym (ap numbersOfSettlement (c .before .credit .given .1)) ∙ c .before .before .before .settle .ensures .0) (first .if1 .left)
     (sym (d .before .all-zero .ensures) ∙ not-false _ (d .if2 .left))
 
 pub check-record-spec : {M : Type 1} → statement M

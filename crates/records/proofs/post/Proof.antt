@@ -44,20 +44,22 @@ use denote.Triple.Spec.{Meets, tripleOf}
 use denote.Triple.Table.{entered, cited}
 use denote.Triple.Walked.{says, Stays, stay-ref, stay-none, walkOf, goes-none, goes-ref, Walks, ends-at, walked, walk-meets}
 use denote.Exit.{yes}
+use Rattle.scheme.specs.Scheme.{mostMarks}
 use Rattle.terms.proofs.Terms as E
 use Rattle.terms.proofs.Terms.Laws as E′
 use Rattle.records.specs.declared.Contract.{Contract}
-use Rattle.records.specs.declared.Entry.{Entry}
+use Rattle.records.specs.declared.Decision.{Decision}
 use Rattle.records.specs.declared.Posted.{Posted}
-use Rattle.records.specs.Post.{written, Decided}
-use Rattle.records.proofs.Cells.{recordVal, Held, cellsOf, cells-set, cells-length, marks-length, written-held}
+use Rattle.records.specs.Post.{withMark}
+use Rattle.records.specs.Decision.{Decided}
+use Rattle.records.proofs.Cells.{recordVal, Held, cellsOf, cells-set, cells-length, marks-length, termsSize, with-mark-held}
 use Rattle.records.proofs.Element.{element}
 use Rattle.records.proofs.Contract as K
 use Rattle.records.proofs.Contract.Laws as K′
 use Rattle.records.proofs.Posted as P
 use Rattle.records.proofs.Posted.Laws as P′
-use Rattle.records.proofs.Entry as N
-use Rattle.records.proofs.Entry.Laws as N′
+use Rattle.records.proofs.Decision as N
+use Rattle.records.proofs.Decision.Laws as N′
 use Rattle.records.proofs.decide as decide
 use Rattle.records.proofs.decide.Symbol as decide-def
 use Rattle.records.proofs.decide.Symbol.{name as #records·decide}
@@ -74,15 +76,15 @@ abbrev postedVal : Posted → Val
 postedVal = LL.val P.the-type P′.the-laws
 
 -- the record after the two stores
-abbrev after : Contract → Entry → Contract
-after c n = written c (n .at) (n .mark) (n .count)
+abbrev after : Contract → Decision → Contract
+after c n = withMark c (n .at) (n .mark) (n .count)
 
 -- the machine value of a record with these cells of marks
 abbrev withCells : Contract → ℕ → List Val → Val
 withCells c n vs = vstruct (vcons (LL.val E.the-type E′.the-laws (c .terms)) (vcons (vstruct (ofList vs)) (vcons (vint w64 n) vnil)))
 
--- what is known of the fields of an entry that memory holds
-module _ (n : Entry) (vs : List Val) (is : Is N.the-row n vs) where
+-- what is known of the fields of a decision that memory holds
+module _ (n : Decision) (vs : List Val) (is : Is N.the-row n vs) where
   at-fits : n .at < 2 ^ 64
   at-fits = LL.owed N.the-type N′.the-laws n vs is .0 .1
 
@@ -99,7 +101,7 @@ module _ {M : Type 1} (𝓤 : URA M) (H : Heap 𝓤) (A : Atoms 𝓤) (mem : Mem
   abbrev Decide : Triples 𝓤
   Decide = tripleOf 𝓤 H A decide.signature (decide.spec 𝓤 H A mem run)
 
-  decided-of : (c : Contract) (m : ℕ) (n : Entry)
+  decided-of : (c : Contract) (m : ℕ) (n : Decision)
       → ent 𝓤 (ensured 𝓤 H A decide.ended (decide.clauses 𝓤 H A mem run) tt (c, (m, tt)) tt n) (fact 𝓤 (Decided c m n))
   decided-of c m n = exE 𝓤 _ (λ ws. snd∗ 𝓤 (sem 𝓤 H A (lasts decide.ended tt (c, (m, tt)) ws)) (fact 𝓤 (Decided c m n)))
 
@@ -115,7 +117,7 @@ module _ {M : Type 1} (𝓤 : URA M) (H : Heap 𝓤) (A : Atoms 𝓤) (W : Given
   Post = walkOf 𝓤 H A f.ended stayed (f.clauses 𝓤 H A at-mem run) .post (((κ, tt), (q, tt), tt, x, at), tt)
 
   -- from what is left at the return to what the contract says of it
-  exits : (n : Entry) → Decided c m n → Is P.the-row (n .posted) (postedVal (n .posted) ∷ [])
+  exits : (n : Decision) → Decided c m n → Is P.the-row (n .posted) (postedVal (n .posted) ∷ [])
       → ent 𝓤
       (sep 𝓤 (A .obs γ (K.the-row .coded .code (after c n))) (sep 𝓤 (A .bor κ (Body (mem K.the-row) b o γ)) (A .lft κ q)))
       (Post (postedVal (n .posted)))
@@ -187,7 +189,7 @@ module _ {M : Type 1} (𝓤 : URA M) (H : Heap 𝓤) (A : Atoms 𝓤) (W : Given
         calls-at ! fm (Decide 𝓤 H A at-mem run) known to-decide
         (and-then ! (load ! (from ! (stop !)) (look ! 16 refl)) (and-then ! (load ! (from ! (stop !)) (look ! 18 refl)) (no-more !))) (λ w.
         use1 W
-        (later (some (λ (n : Entry). (‵ ftrue ⊛ ‵ (N.the-row .own n (w ∷ []))) ⊛ raw (ensured 𝓤 H A decide.ended (decide.clauses 𝓤 H A at-mem run) tt (c, (m, tt)) tt n))))
+        (later (some (λ (n : Decision). (‵ ftrue ⊛ ‵ (N.the-row .own n (w ∷ []))) ⊛ raw (ensured 𝓤 H A decide.ended (decide.clauses 𝓤 H A at-mem run) tt (c, (m, tt)) tt n))))
         (id⊢ 𝓤 _) $
         await ! tt $
         pick ! (λ n.
@@ -200,20 +202,20 @@ module _ {M : Type 1} (𝓤 : URA M) (H : Heap 𝓤) (A : Atoms 𝓤) (W : Given
         peeks ! N.the-row (Is N.the-row) (shows 𝓤 H A N.the-row) n (w ∷ []) (λ is.
         land ! (from ! (stop !)) (init ! 14 refl (LL.lawful N.the-type N′.the-laws 𝓤 H A W .typed n _ is .0)) $
         rewrite ! 14 (λ (u : Val). ‵ (fat fullShare N′.mir l₄ 0 u)) (ap only (LL.tells N.the-type N′.the-laws n _ is)) refl $
-        -- [what the entry owns; the record's cell; what it owns; the open borrow; obs; auth; true; the mark's; _7; …]
-        -- at = entry.at
+        -- [what the decision owns; the record's cell; what it owns; the open borrow; obs; auth; true; the mark's; _7; …]
+        -- at = decision.at
         assigns ! (of-opd ! (load ! (from ! (fld ! refl (stop !))) (look-in ! 14 (sub ! 0 refl (whole !))))) (from ! (stop !))
         (init ! 12 refl (tt, record { fits = at-fits n _ is })) $
-        -- c.marks[at] = entry.mark
+        -- c.marks[at] = decision.mark
         assigns ! (addr ! (from ! (hop ! (look ! 20 refl) (fld ! refl (stop !))))) (from ! (stop !)) (init ! 10 refl (tt, tt)) $
         assigns ! (bin ! (load ! (from ! (stop !)) (look ! 10 refl)) (load ! (from ! (stop !)) (look ! 12 refl)) tt) (from ! (stop !)) (init ! 8 refl (tt, tt)) $
-        rewrite ! 8 (λ (p : ℕ). ‵ (fat fullShare tyPtr l₇ 0 (vptr b p))) (sym (place-byte (o + 28) (n .at))) refl $
+        rewrite ! 8 (λ (p : ℕ). ‵ (fat fullShare tyPtr l₇ 0 (vptr b p))) (sym (place-byte (o + termsSize) (n .at))) refl $
         assigns ! (of-opd ! (load ! (from ! (fld ! refl (stop !))) (look-in ! 14 (sub ! 1 refl (whole !))))) (from ! (hop ! (look ! 8 refl) (stop !)))
         (store-in ! 1 (element ! (cellsOf (c .marks)) (n .at) (cells held) (inside held d) (sub ! 1 refl (whole !))) (tt, record { fits = mark-fits n _ is })) $
-        -- c.count = entry.count
+        -- c.count = decision.count
         assigns ! (of-opd ! (load ! (from ! (fld ! refl (stop !))) (look-in ! 14 (sub ! 2 refl (whole !))))) (from ! (hop ! (look ! 20 refl) (fld ! refl (stop !))))
         (store-in ! 1 (sub ! 2 refl (whole !)) (tt, record { fits = count-fits n _ is })) $
-        -- entry.posted
+        -- decision.posted
         assigns ! (of-opd ! (load ! (from ! (fld ! refl (stop !))) (look-in ! 14 (sub ! 3 refl (whole !))))) (from ! (stop !))
         (init ! 22 refl (LL.lawful P.the-type P′.the-laws 𝓤 H A W .typed (n .posted) _ (posted-is n _ is) .0)) $
         drop ! $
@@ -221,7 +223,7 @@ module _ {M : Type 1} (𝓤 : URA M) (H : Heap 𝓤) (A : Atoms 𝓤) (W : Given
         drop ! $
         rewrite ! 0 (λ (vs : List Val). ‵ (cellAt fullShare (K.the-row .mir) (withCells c (n .count) vs ∷ []) b o)) (cells-set (c .marks) (n .at) (n .mark)) refl $
         owned ! K.the-row (Is K.the-row) (LL.makes K.the-type K′.the-plain 𝓤 H A) (after c n) _
-        (written-held c (n .at) (n .mark) (n .count) (mark-fits n _ is) (count-fits n _ is) held) $
+        (with-mark-held c (n .at) (n .mark) (n .count) (mark-fits n _ is) (count-fits n _ is) held) $
         move ! (1 ∷ 0 ∷ []) $
         closes ! tt K.the-row (after c n) (recordVal (after c n) ∷ []) b o $
         -- [obs; the borrow; the token; true; the mark's; _7; …; _1; …; _0; …]
@@ -254,10 +256,10 @@ module _ {M : Type 1} (𝓤 : URA M) (H : Heap 𝓤) (A : Atoms 𝓤) (W : Given
         keep ! (0 ∷ 1 ∷ 2 ∷ []) $
         by ! (exits n d (posted-is n _ is))))))))))))))))
       where
-        cells : Held c → length (cellsOf (c .marks)) ≡ 240
+        cells : Held c → length (cellsOf (c .marks)) ≡ mostMarks
         cells held = cells-length (c .marks) ∙ marks-length c held
 
-        inside : Held c → {n : Entry} → Decided c m n → n .at < length (cellsOf (c .marks))
+        inside : Held c → {n : Decision} → Decided c m n → n .at < length (cellsOf (c .marks))
         inside held {n} d = subst (λ (k : ℕ). n .at < k) (sym (cells held)) (d .inside)
 
 module _ {M : Type 1} (𝓤 : URA M) (H : Heap 𝓤) (A : Atoms 𝓤) (W : Given 𝓤 H A) (at-mem : Memory → SProp 𝓤) (run : Routine → Fun 𝓤) where

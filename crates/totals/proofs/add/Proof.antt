@@ -7,7 +7,7 @@ use Rattle.money.specs.declared.PensionPence.{PensionPence}
 use Rattle.settlement.proofs.Bounds.{settle-bounds}
 use Rattle.records.specs.Record.{usedMarks}
 use Rattle.records.proofs.Bad.{check-says, check-credit}
-use Rattle.totals.specs.Total.{addOf}
+use Rattle.totals.specs.Tally.{addOf}
 use Rattle.totals.proofs.add.Statement.{statement}
 use Rattle.totals.proofs.add.Tie as tie
 

@@ -51,14 +51,15 @@ use denote.Triple.Spec.{Meets, tripleOf}
 use denote.Triple.Table.{entered, cited}
 use denote.Triple.Walked.{says, Stays, stay-none-slice, walkOf, goes-none-slice, Walks, ends-at, walked, walk-meets}
 use denote.Exit.{yes}
-use Rattle.money.specs.Limits.{capPence}
+use Rattle.scheme.specs.Scheme.{capPence}
 use Rattle.records.specs.declared.Contract.{Contract}
 use Rattle.totals.specs.declared.Tally.{Tally}
 use Rattle.totals.specs.declared.Total.{Total}
-use Rattle.totals.specs.Total.{memberTotalOf, openingOf, addOf}
+use Rattle.totals.specs.Total.{mostRecords, memberTotalOf}
+use Rattle.totals.specs.Tally.{openingOf, addOf}
 use Rattle.totals.proofs.Adding.{blank, Stands, stands-first, stands-inside, stands-bound, stands-last, stands-next}
 use Rattle.totals.proofs.Values.{tallyVal, TallyHeld, totalVal, total-held}
-use Rattle.records.proofs.Cells.{recordVal, Held}
+use Rattle.records.proofs.Cells.{recordVal, recordSize, Held}
 use Rattle.records.proofs.Contract as K
 use Rattle.records.proofs.Contract.Laws as K′
 use Rattle.totals.proofs.Tally as T
@@ -159,7 +160,7 @@ module _ {M : Type 1} (𝓤 : URA M) (H : Heap 𝓤) (A : Atoms 𝓤) (W : Given
   abbrev to-add : Tally → Contract → ℕ → Add 𝓤 H A at-mem run .Ghost
   to-add t c i = ((tt, tt, tt, (t, (c, (i, tt))), (tallyVal t ∷ [], (recordVal c ∷ [], (vint w64 i ∷ [], tt)))), tt)
 
-  goes-add : (t : Tally) (c : Contract) (i : ℕ) → t .total .credit .0 ≤ 64 * capPence → i < 2 ^ 64 → TallyHeld t → Held c
+  goes-add : (t : Tally) (c : Contract) (i : ℕ) → t .total .credit .0 ≤ mostRecords * capPence → i < 2 ^ 64 → TallyHeld t → Held c
       → ent 𝓤 (emp 𝓤) (Add 𝓤 H A at-mem run .pre (to-add t c i))
   goes-add t c i few i-fits is held =
       qed W [] ∵
@@ -239,7 +240,7 @@ module _ {M : Type 1} (𝓤 : URA M) (H : Heap 𝓤) (A : Atoms 𝓤) (W : Given
         -- records[i]
         assigns ! (bin ! (load ! (from ! (stop !)) (look ! 13 refl)) (lit ! tt) (record { fits = bytes })) (from ! (stop !)) (init ! 7 refl (tt, record { fits = bytes })) $
         assigns ! (bin ! (load ! (from ! (fld ! refl (stop !))) (look-in ! 17 (sub ! 0 refl (whole !)))) (load ! (from ! (stop !)) (look ! 7 refl)) tt) (from ! (stop !)) (init ! 5 refl (tt, tt)) $
-        rewrite ! 5 (λ (p : ℕ). ‵ (fat fullShare tyPtr l₇ 0 (vptr b p))) (sym (place-is 280 o (u .i))) refl $
+        rewrite ! 5 (λ (p : ℕ). ‵ (fat fullShare tyPtr l₇ 0 (vptr b p))) (sym (place-is recordSize o (u .i))) refl $
         elem-out ! K.the-row (Is K.the-row) (shows 𝓤 H A K.the-row) (LL.vals K.the-type K′.the-laws) (LL.tells K.the-type K′.the-laws) q′ cs (u .i) blank b o inside (λ held.
         -- [the record; what it owns; the others; what shuts; what the slice owns; _8; …; _7; …; _6; …; _5; …; _4; …]
         assigns ! (of-opd ! (load ! (from ! (hop ! (look ! 7 refl) (stop !))) (look-raw ! 0 refl))) (from ! (stop !))
@@ -282,10 +283,10 @@ module _ {M : Type 1} (𝓤 : URA M) (H : Heap 𝓤) (A : Atoms 𝓤) (W : Given
         inside : u .i < length cs
         inside = stands-inside cs (u .i) (u .t) (u .stands) below
 
-        few : u .t .total .credit .0 ≤ 64 * capPence
+        few : u .t .total .credit .0 ≤ mostRecords * capPence
         few = stands-bound cs (u .i) (u .t) (u .stands) below
 
-        bytes : u .i * 280 < 2 ^ 64
+        bytes : u .i * recordSize < 2 ^ 64
         bytes = omega (arith, gn .1, inside)
 
         next-fits : u .i + 1 < 2 ^ 64

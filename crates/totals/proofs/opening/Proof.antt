@@ -2,7 +2,7 @@
 -- Assumes nothing.
 use borrow.Author.Needs.{needs}
 use Rattle.common.proofs.Tests.{tests}
-use Rattle.totals.specs.Total.{openingOf}
+use Rattle.totals.specs.Tally.{openingOf}
 use Rattle.totals.proofs.opening.Statement.{statement}
 use Rattle.totals.proofs.opening.Tie as tie
 

@@ -1,24 +1,27 @@
--- `records::post_refusal` meets its contract: a bad record, then no month left, then the mark after those in use.
+-- `records::answer` meets its contract: a bad record, then no month left, then the mark after those in use.
 -- Assumes nothing.
 use mathlib.Core.Path.{sym, ap, _∙_}
 use native.Mathlib.Omega.{arith}
 use borrow.Author.Needs.{needs}
-use Rattle.marks.specs.Reading.{oneMore, stepBy}
+use Rattle.marks.specs.Reading.{countUp, stepBy}
 use Rattle.marks.specs.declared.Reading.{Reading}
 use Rattle.records.proofs.Bad.{not-bad, check-says}
 use Rattle.records.proofs.Cells.{marks-length}
-use Rattle.records.proofs.Posting.{bad-refused, used-length, over-refused, mark-refused}
-use Rattle.records.proofs.post_refusal.Statement.{statement}
-use Rattle.records.proofs.post_refusal.Tie as tie
+use Rattle.records.proofs.Posting.{bad-answer, used-length, over-answer, read-answer}
+use Rattle.records.proofs.answer.Statement.{statement}
+use Rattle.records.proofs.answer.Tie as tie
 
 check-record-requires : tie.Need-check-record-requires
 check-record-requires c κs = search needs
 
 returns : tie.Need-returns
-returns c = sym (bad-refused _ _ (check-says _ (c .before .check-record .ensures) (c .if1 .taken)))
+returns c = sym (bad-answer _ _ (check-says _ (c .before .check-record .ensures) (c .if1 .taken)))
 
 cast-if2 : tie.Need-cast-if2
 cast-if2 c = search needs
+
+cast-if2-2 : tie.Need-cast-if2-2
+cast-if2-2 c = search needs
 
 mul-if2 : tie.Need-mul-if2
 mul-if2 c = search needs
@@ -27,7 +30,7 @@ returns-2 : tie.Need-returns-2
 returns-2 c =
     let d = c .before .before in
     let start = d .before .before in
-    sym (over-refused _ _ (marks-length (start .args .c) (start .good .0))
+    sym (over-answer _ _ (marks-length (start .args .c) (start .good .0))
     (check-says _ (d .before .check-record .ensures) (d .if1 .left)) (c .if2 .taken))
 
 array-share-prefix-marks : tie.Need-array-share-prefix-marks
@@ -54,18 +57,18 @@ returns-3 : tie.Need-returns-3
 returns-3 c =
     let d = c .before .before .before .before .before in
     let start = d .before .before in
-    ap (λ (r : Reading). r .refusal) (c .step .ensures)
-    ∙ ap (λ (r : Reading). stepBy oneMore r (start .args .mark) .refusal) (c .before .read-marks .ensures)
-    ∙ sym (mark-refused (start .args .c) (start .args .mark) (marks-length (start .args .c) (start .good .0))
-    (check-says _ (d .before .check-record .ensures) (d .if1 .left)) (c .before .before .before .if2 .left))
+    read-answer (start .args .c) (start .args .mark) (marks-length (start .args .c) (start .good .0))
+    (check-says _ (d .before .check-record .ensures) (d .if1 .left)) (c .before .before .before .if2 .left) _
+    (c .step .ensures ∙ ap (λ (r : Reading). stepBy countUp r (start .args .mark)) (c .before .read-marks .ensures))
 
-pub post-refusal-spec : {M : Type 1} → statement M
-post-refusal-spec =
+pub answer-spec : {M : Type 1} → statement M
+answer-spec =
     tie.close
     (tie.spec
     check-record-requires
     returns
     cast-if2
+    cast-if2-2
     mul-if2
     returns-2
     array-share-prefix-marks
