@@ -1,9 +1,11 @@
 // Posts histories into records and totals lists of records. Each line written is held to the stored output.
+mod by_value;
 mod cases;
 
 use by_value::Outcome;
 use records::Contract;
 use records::Posted;
+use scheme::MOST_MARKS;
 use terms::Terms;
 
 // From age 50, with dependant's pension, at pension age 65: by monthly payments, or at term 0 by a lump sum.
@@ -21,8 +23,8 @@ fn terms(term: u32, amount: u32) -> Terms {
 
 // A record with its count and one mark set from outside, whatever they are.
 fn forged(terms: Terms, at: usize, mark: u8, count: usize) -> Contract {
-    let mut marks = [0u8; 240];
-    if at < 240 {
+    let mut marks = [0u8; MOST_MARKS];
+    if at < MOST_MARKS {
         marks[at] = mark;
     }
     Contract {

@@ -53,8 +53,8 @@ use denote.Exit.{yes}
 use Rattle.records.specs.declared.Contract.{Contract}
 use Rattle.totals.specs.declared.Total.{Total}
 use Rattle.totals.specs.Total.{memberTotalOf}
-use Rattle.by_value.proofs.Local.{local-in, local-out}
-use Rattle.by_value.proofs.First.{past, cut, rejoin}
+use Rattle.posting.proofs.Local.{local-in, local-out}
+use Rattle.posting.proofs.First.{past, cut, rejoin}
 use Rattle.totals.proofs.Values.{totalVal}
 use Rattle.records.proofs.Contract as K
 use Rattle.records.proofs.Contract.Laws as K′
@@ -64,14 +64,14 @@ use Rattle.totals.proofs.member_total as total
 use Rattle.totals.proofs.member_total.Symbol as total-def
 use Rattle.totals.proofs.member_total.Symbol.{name as #totals·member-total}
 use Rattle.totals.proofs.member_total.Met as total-thm
-use Rattle.by_value.proofs.at_most_65 as most
-use Rattle.by_value.proofs.at_most_65.Symbol as most-def
-use Rattle.by_value.proofs.at_most_65.Symbol.{name as #by-value·at-most-65}
-use Rattle.by_value.proofs.at_most_65.Met as most-thm
-use Rattle.by_value.proofs.total_of_first.Key.{name as #by-value·total-of-first}
-use Rattle.by_value.proofs.total_of_first as f
-use Rattle.by_value.proofs.total_of_first.Statement as stated
-use Rattle.by_value.proofs.total_of_first.Code as code
+use Rattle.posting.proofs.by_value.at_most_65 as most
+use Rattle.posting.proofs.by_value.at_most_65.Symbol as most-def
+use Rattle.posting.proofs.by_value.at_most_65.Symbol.{name as #posting·by-value·at-most-65}
+use Rattle.posting.proofs.by_value.at_most_65.Met as most-thm
+use Rattle.posting.proofs.by_value.total_of_first.Key.{name as #posting·by-value·total-of-first}
+use Rattle.posting.proofs.by_value.total_of_first as f
+use Rattle.posting.proofs.by_value.total_of_first.Statement as stated
+use Rattle.posting.proofs.by_value.total_of_first.Code as code
 
 -- the array's type
 abbrev R : RattleType
@@ -218,7 +218,7 @@ module _ {M : Type 1} (𝓤 : URA M) (H : Heap 𝓤) (A : Atoms 𝓤) (W : Given
       → ent 𝓤 (ensured 𝓤 H A total.ended (total.clauses 𝓤 H A at-mem run) (α ∷ [], tt) (x l γ) tt r) (fact 𝓤 (r ≡ memberTotalOf (take n cs)))
   total-of l α γ r = exE 𝓤 _ (λ ws. snd∗ 𝓤 (sem 𝓤 H A (lasts total.ended (α ∷ [], tt) (x l γ) ws)) (fact 𝓤 (r ≡ memberTotalOf (take n cs))))
 
-  module _ (C : Calls 𝓤 H) (Λ : Loops 𝓤 H) (fm : FmC 𝓤 H (W .laws) C) (bounded : Triple 𝓤 (C #by-value·at-most-65) (Most 𝓤 H A at-mem run))
+  module _ (C : Calls 𝓤 H) (Λ : Loops 𝓤 H) (fm : FmC 𝓤 H (W .laws) C) (bounded : Triple 𝓤 (C #posting·by-value·at-most-65) (Most 𝓤 H A at-mem run))
       (known : Triple 𝓤 (C #totals·member-total) (MemberTotal 𝓤 H A at-mem run)) where
     walk : ent 𝓤 (onEntry 𝓤 H A f.signature tt tt (cs, (n, tt)) at) (WpFn 𝓤 H C Λ code.function (arrayVal cs ∷ vint w64 n ∷ []) Post)
     walk =
@@ -326,7 +326,7 @@ module _ {M : Type 1} (𝓤 : URA M) (H : Heap 𝓤) (A : Atoms 𝓤) (W : Given
         typed = array-lawful 𝓤 H A W K.the-row (LL.lawful K.the-type K′.the-laws 𝓤 H A W) 65 .typed cs (vals cs) is .0
 
 module _ {M : Type 1} (𝓤 : URA M) (H : Heap 𝓤) (A : Atoms 𝓤) (W : Given 𝓤 H A) (at-mem : Memory → SProp 𝓤) (run : Routine → Fun 𝓤) where
-  total-of-first-walks : (C : Calls 𝓤 H) (Λ : Loops 𝓤 H) → FmC 𝓤 H (W .laws) C → Triple 𝓤 (C #by-value·at-most-65) (Most 𝓤 H A at-mem run)
+  total-of-first-walks : (C : Calls 𝓤 H) (Λ : Loops 𝓤 H) → FmC 𝓤 H (W .laws) C → Triple 𝓤 (C #posting·by-value·at-most-65) (Most 𝓤 H A at-mem run)
       → Triple 𝓤 (C #totals·member-total) (MemberTotal 𝓤 H A at-mem run)
       → Walks 𝓤 H A f.ended stayed (WpFn 𝓤 H C Λ code.function) (f.clauses 𝓤 H A at-mem run)
   total-of-first-walks C Λ fm bounded known =
@@ -337,7 +337,7 @@ module _ {M : Type 1} (𝓤 : URA M) (H : Heap 𝓤) (A : Atoms 𝓤) (W : Given
       via 𝓤 _ (fst∗ 𝓤 _ (emp 𝓤)) (walk 𝓤 H A W at-mem run (a .0) (a .1 .0) (are .0) (are .1 .0 .1) C Λ fm bounded known))
 
 total-of-first-meets : {M : Type 1} (𝓤 : URA M) (H : Heap 𝓤) (A : Atoms 𝓤) → Given 𝓤 H A → (at-mem : Memory → SProp 𝓤) (run : Routine → Fun 𝓤) (𝓣 : Tables 𝓤 H)
-    → Triple 𝓤 (𝓣 .C #by-value·at-most-65) (Most 𝓤 H A at-mem run) → Triple 𝓤 (𝓣 .C #totals·member-total) (MemberTotal 𝓤 H A at-mem run)
+    → Triple 𝓤 (𝓣 .C #posting·by-value·at-most-65) (Most 𝓤 H A at-mem run) → Triple 𝓤 (𝓣 .C #totals·member-total) (MemberTotal 𝓤 H A at-mem run)
     → Meets 𝓤 H A f.signature (WpFn 𝓤 H (𝓣 .C) (𝓣 .Λ) code.function) (f.spec 𝓤 H A at-mem run)
 total-of-first-meets 𝓤 H A W at-mem run 𝓣 bounded known =
     walk-meets 𝓤 H A f.ended stayed W
@@ -353,9 +353,9 @@ total-of-first-spec 𝓤 H 𝓜 𝓖 𝓡 =
     entered 𝓤 H (tripleOf 𝓤 H (𝓖 .A) f.signature (f.spec 𝓤 H (𝓖 .A) (𝓜 .mem) (𝓡 .run)))
     (tables 𝓤 H 𝓜 𝓡 code.env .C)
     (tables 𝓤 H 𝓜 𝓡 code.env .Λ)
-    #by-value·total-of-first
+    #posting·by-value·total-of-first
     code.function
     (code.unfolded 𝓤 H 𝓜 𝓡)
     (total-of-first-meets 𝓤 H (𝓖 .A) (givenOf 𝓤 H 𝓜 𝓖) (𝓜 .mem) (𝓡 .run) (tablesOf 𝓤 H 𝓜 (tables 𝓤 H 𝓜 𝓡 code.env))
-    (cited 𝓤 H (Most 𝓤 H (𝓖 .A) (𝓜 .mem) (𝓡 .run)) 𝓜 𝓡 code.env #by-value·at-most-65 most-def.routine code.calls-by-value·at-most-65 (most-thm.met 𝓤 H 𝓜 𝓖 𝓡))
+    (cited 𝓤 H (Most 𝓤 H (𝓖 .A) (𝓜 .mem) (𝓡 .run)) 𝓜 𝓡 code.env #posting·by-value·at-most-65 most-def.routine code.calls-posting·by-value·at-most-65 (most-thm.met 𝓤 H 𝓜 𝓖 𝓡))
     (cited 𝓤 H (MemberTotal 𝓤 H (𝓖 .A) (𝓜 .mem) (𝓡 .run)) 𝓜 𝓡 code.env #totals·member-total total-def.routine code.calls-totals·member-total (total-thm.met 𝓤 H 𝓜 𝓖 𝓡)))

@@ -44,24 +44,24 @@ use denote.Triple.Walked.{says, Stays, stay-none, walkOf, goes-none, Walks, ends
 use denote.Exit.{yes}
 use Rattle.records.specs.declared.Contract.{Contract}
 use Rattle.records.specs.declared.Posted.{Posted}
-use Rattle.by_value.specs.declared.Outcome.{Outcome}
+use Rattle.posting.specs.declared.by_value.Outcome.{Outcome}
 use Rattle.records.specs.Post.{postOf, postedRecord}
 use Rattle.records.proofs.Cells.{recordVal, Held}
 use Rattle.records.proofs.Contract as K
 use Rattle.records.proofs.Contract.Laws as K′
 use Rattle.records.proofs.Posted as P
 use Rattle.records.proofs.Posted.Laws as P′
-use Rattle.by_value.proofs.Local.{local-in, local-out}
-use Rattle.by_value.proofs.Outcome as O
-use Rattle.by_value.proofs.Outcome.Laws as O′
+use Rattle.posting.proofs.Local.{local-in, local-out}
+use Rattle.posting.proofs.by_value.Outcome as O
+use Rattle.posting.proofs.by_value.Outcome.Laws as O′
 use Rattle.records.proofs.post as post
 use Rattle.records.proofs.post.Symbol as post-def
 use Rattle.records.proofs.post.Symbol.{name as #records·post}
 use Rattle.records.proofs.post.Met as post-thm
-use Rattle.by_value.proofs.post_into.Key.{name as #by-value·post-into}
-use Rattle.by_value.proofs.post_into as f
-use Rattle.by_value.proofs.post_into.Statement as stated
-use Rattle.by_value.proofs.post_into.Code as code
+use Rattle.posting.proofs.by_value.post_into.Key.{name as #posting·by-value·post-into}
+use Rattle.posting.proofs.by_value.post_into as f
+use Rattle.posting.proofs.by_value.post_into.Statement as stated
+use Rattle.posting.proofs.by_value.post_into.Code as code
 
 abbrev stayed : Stays (f.ended .signature .params) (f.ended .kept)
 stayed = (stay-none (λ _. K.the-row) yes, (stay-none (λ _. u8) yes, tt))
@@ -249,7 +249,7 @@ post-into-spec 𝓤 H 𝓜 𝓖 𝓡 =
     entered 𝓤 H (tripleOf 𝓤 H (𝓖 .A) f.signature (f.spec 𝓤 H (𝓖 .A) (𝓜 .mem) (𝓡 .run)))
     (tables 𝓤 H 𝓜 𝓡 code.env .C)
     (tables 𝓤 H 𝓜 𝓡 code.env .Λ)
-    #by-value·post-into
+    #posting·by-value·post-into
     code.function
     (code.unfolded 𝓤 H 𝓜 𝓡)
     (post-into-meets 𝓤 H (𝓖 .A) (givenOf 𝓤 H 𝓜 𝓖) (𝓜 .mem) (𝓡 .run) (tablesOf 𝓤 H 𝓜 (tables 𝓤 H 𝓜 𝓡 code.env))
