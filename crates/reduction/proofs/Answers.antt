@@ -13,7 +13,7 @@ use Rattle.reduction.specs.declared.Application.{Application}
 use Rattle.reduction.specs.declared.Potentials.{Potentials}
 use Rattle.reduction.specs.Range.{InRange}
 use Rattle.reduction.specs.Search.{candidateOf, potentialAt, belowNpa}
-use Rattle.reduction.specs.Answer.{shownOf, answeredReduction, reductionBy, reductionLimitOf}
+use Rattle.reduction.specs.Answer.{potentialShown, answeredReduction, reductionBy, reductionLimitOf}
 use Rattle.reduction.proofs.Range.{not-out}
 use Rattle.reduction.proofs.Candidates.{earliestAge, candidate-least, candidates-rise, candidates-apart, below-npa}
 
@@ -27,27 +27,27 @@ tried a m = record { first = pension (triedOf a m 0); second = pension (triedOf 
 
 module _ (a : Application) where
   -- an answer that shows the first m
-  pub answered : InRange a → (m age : ℕ) → earliestAge a ≡ age → ((j : ℕ) → j < 3 → shownOf a age j ≡ triedOf a m j)
+  pub answer-shown : InRange a → (m age : ℕ) → earliestAge a ≡ age → ((j : ℕ) → j < 3 → potentialShown a age j ≡ triedOf a m j)
       → answeredReduction age (tried a m) ≡ reductionLimitOf a
   unfolding reductionLimitOf reductionBy
-  answered in-it m age e shown =
+  answer-shown in-it m age e shown =
       rw (not-out a in-it, e, shown 0 (omega arith), shown 1 (omega arith), shown 2 (omega arith))
 
   -- none is taken, and the first m are those below NPA
-  pub shown-untaken : (m j : ℕ) → belowNpa a j ≡ ltb j m → shownOf a 0 j ≡ triedOf a m j
-  unfolding shownOf triedOf
+  pub shown-untaken : (m j : ℕ) → belowNpa a j ≡ ltb j m → potentialShown a 0 j ≡ triedOf a m j
+  unfolding potentialShown triedOf
   shown-untaken m j below = by-test (ltb j m) (λ e. rw (below, e)) (λ e. rw (below, e))
 
   -- candidate k is taken
   module _ (k : ℕ) (below : candidateOf a k < a .npa) where
-    shown-until : (j : ℕ) → ltb j (k + 1) ≡ true → shownOf a (candidateOf a k) j ≡ triedOf a (k + 1) j
-    unfolding shownOf triedOf
+    shown-until : (j : ℕ) → ltb j (k + 1) ≡ true → potentialShown a (candidateOf a k) j ≡ triedOf a (k + 1) j
+    unfolding potentialShown triedOf
     shown-until j e =
         let up = candidates-rise a j k (omega (arith, ltb-true j (k + 1) e)) in
         rw (e, below-npa a j (omega arith), le-leb (candidateOf a j) (candidateOf a k) up, or-true (eqb (candidateOf a k) 0))
 
-    not-shown : (j : ℕ) → ltb j (k + 1) ≡ false → shownOf a (candidateOf a k) j ≡ triedOf a (k + 1) j
-    unfolding shownOf triedOf
+    not-shown : (j : ℕ) → ltb j (k + 1) ≡ false → potentialShown a (candidateOf a k) j ≡ triedOf a (k + 1) j
+    unfolding potentialShown triedOf
     not-shown j e =
         let after = candidates-apart a k j (omega (arith, ltb-false j (k + 1) e)) in
         rw (
@@ -57,5 +57,5 @@ module _ (a : Application) where
           and-false (belowNpa a j),
         )
 
-    pub shown-taken : (j : ℕ) → shownOf a (candidateOf a k) j ≡ triedOf a (k + 1) j
+    pub shown-taken : (j : ℕ) → potentialShown a (candidateOf a k) j ≡ triedOf a (k + 1) j
     shown-taken j = by-test (ltb j (k + 1)) (shown-until j) (not-shown j)

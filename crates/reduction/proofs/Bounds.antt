@@ -10,7 +10,7 @@ use Rattle.common.proofs.Choice.{either}
 use Rattle.reduction.specs.declared.Application.{Application}
 use Rattle.reduction.specs.Range.{outOfRange, InRange}
 use Rattle.reduction.specs.Search.{candidateOf, belowNpa}
-use Rattle.reduction.specs.Answer.{shownOf, reductionBy, reductionLimitOf}
+use Rattle.reduction.specs.Answer.{potentialShown, reductionBy, reductionLimitOf}
 use Rattle.reduction.specs.Bounds.{mostPotential, ReductionBounds}
 use Rattle.reduction.proofs.Range.{in-range}
 use Rattle.reduction.proofs.Candidates.{earliestAge, most-at}
@@ -25,8 +25,8 @@ module _ (a : Application) where
         (λ e. omega (arith, eqb-true (earliestAge a) 0 e))
         (λ e. let f = given-earliest a (eqb-false (earliestAge a) 0 e) in omega (arith, f .is, f .passes .below, in-it .npa-high))
 
-    shown-most : (age k : ℕ) → k < 3 → shownOf a age k ≤ mostPotential
-    unfolding shownOf
+    shown-most : (age k : ℕ) → k < 3 → potentialShown a age k ≤ mostPotential
+    unfolding potentialShown
     shown-most age k among =
         by-test (belowNpa a k)
         (λ b. rw b

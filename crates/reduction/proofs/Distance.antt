@@ -5,11 +5,12 @@ use Prim.Native.Nat.{ℕ, _+_, _*_, _-_, _^_, _≤_, _<_}
 use native.Mathlib.Nat.{mul-le-mul, mul-le-mul-left, mul-le-mul-right, one-le-pow}
 use native.Mathlib.Omega.{arith}
 use lib.Dec.{ltb→lt}
+use Rattle.scheme.specs.Scheme.{poundsInPence}
 use Rattle.rounding.specs.Nearest.{halfUp}
 use Rattle.rounding.proofs.HalfUp.{half-up-within-half, half-up-cancel}
 use Rattle.rounding.proofs.Laws.{round-most}
 use Rattle.reduction.specs.Power.{billion, powerOf, powerNum, powerDen}
-use Rattle.reduction.specs.Potential.{potentialOf, NearPotential, PotentialTold}
+use Rattle.reduction.specs.Potential.{potentialOf, NearPotential, PotentialDistance}
 use Rattle.reduction.specs.Bounds.{mostPotential}
 use Rattle.reduction.proofs.Near.{near-wider}
 use Rattle.reduction.proofs.Growth.{mostPower, power-most, power-close}
@@ -20,13 +21,13 @@ pub potential-cancelled : (years pay erf : ℕ)
 unfolding potentialOf
 potential-cancelled years pay erf =
     let n = years * pay * powerOf years * (1000 - erf) in
-    let up : years * (pay * 100) * powerOf years * (1000 - erf) ≡ 100 * n = omega arith in
+    let up : years * poundsInPence pay * powerOf years * (1000 - erf) ≡ 100 * n = omega arith in
     sym (ap (λ (m : ℕ). halfUp m (54 * 1000 * billion)) up ∙ half-up-cancel 100 n (540 * billion) (omega arith))
 
 -- with it the product of the greatest numbers does not fit
-pub uncancelled-over : 2 ^ 64 < 45 * (200000 * 100) * powerOf 45 * (1000 - 0)
+pub uncancelled-over : 2 ^ 64 < 45 * poundsInPence 200000 * powerOf 45 * (1000 - 0)
 unfolding powerOf halfUp
-uncancelled-over = ltb→lt (2 ^ 64) (45 * (200000 * 100) * powerOf 45 * (1000 - 0)) tt
+uncancelled-over = ltb→lt (2 ^ 64) (45 * poundsInPence 200000 * powerOf 45 * (1000 - 0)) tt
 
 -- from the distance of the power p to that of B: q is the product without the power, x over t the exact power
 near-above : (q p t x b : ℕ) → q ≤ 900000000000 → p * t ≤ x + 2 * t
@@ -59,14 +60,14 @@ module _ (years pay erf : ℕ) (few : years ≤ 45) (paid : pay ≤ 200000) wher
       (round-most halfUp half-up-within-half (years * pay * powerOf years * (1000 - erf)) (540 * billion) mostPotential
       (omega arith) (omega (arith, product-most)))
 
-  weight-most : years * (pay * 100) * (1000 - erf) ≤ 900000000000
+  weight-most : years * poundsInPence pay * (1000 - erf) ≤ 900000000000
   weight-most = omega (arith, mul-le-mul service-most reduction-most)
 
   pub potential-close : NearPotential 1 years pay erf (potentialOf years pay erf)
   unfolding potentialOf
   potential-close =
-      let q = years * (pay * 100) * (1000 - erf) in
-      let n = years * (pay * 100) * powerOf years * (1000 - erf) in
+      let q = years * poundsInPence pay * (1000 - erf) in
+      let n = years * poundsInPence pay * powerOf years * (1000 - erf) in
       let b = halfUp n 54000000000000 in
       let p = power-close years few in
       record {
@@ -83,8 +84,8 @@ module _ (years pay erf : ℕ) (few : years ≤ 45) (paid : pay ≤ 200000) wher
         );
       }
 
-pub potential-told : PotentialTold
-potential-told =
+pub potential-distance : PotentialDistance
+potential-distance =
     record {
       near = λ years pay erf few paid. near-wider (omega arith) (potential-close years pay erf few paid);
       close = λ years pay erf few paid. near-wider (omega arith) (potential-close years pay erf few paid);

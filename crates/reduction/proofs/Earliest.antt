@@ -13,7 +13,7 @@ use borrow.Author.Tests.{eqb-true, eqb-false, eq-eqb}
 use Rattle.common.proofs.Tests.{by-test, never}
 use Rattle.reduction.specs.declared.Application.{Application}
 use Rattle.reduction.specs.Search.{candidateOf, headroom, takes, takesAt, belowNpa, searchBy}
-use Rattle.reduction.specs.Told.{Passing, EarliestPassing, NonePassing}
+use Rattle.reduction.specs.Clauses.{Passing, EarliestPassing, NonePassing}
 use Rattle.reduction.proofs.Candidates.{searchFrom, earliestAge, candidate-least, candidates-rise, is-below, is-not-below}
 
 -- the test as a statement, both ways

@@ -8,9 +8,9 @@ use native.Mathlib.Nat.{one-le-pow}
 use native.Mathlib.Numerals.{add-one}
 use native.Mathlib.Omega.{arith}
 use lib.Dec.{T}
-use Rattle.common.proofs.Computed.{Rule, always, Hold, passes, hold, all, all-at}
+use Rattle.common.proofs.Computed.{Comparison, always, AllTrue, compare, compared, all, all-at}
 use Rattle.rounding.specs.Nearest.{halfUp}
-use Rattle.reduction.specs.Power.{powerOf, powerNum, powerDen, NearPower, PowerTold}
+use Rattle.reduction.specs.Power.{powerOf, powerNum, powerDen, NearPower, PowerDistance}
 use Rattle.reduction.proofs.Near.{near-wider}
 
 -- the power of 45 years
@@ -18,14 +18,14 @@ abbrev pub mostPower : ℕ
 mostPower = 1954213015
 
 -- no power is more; each is near from above and from below
-abbrev rules-of : ℕ → List Rule
-rules-of n =
+abbrev comparisons : ℕ → List Comparison
+comparisons n =
     always (powerOf n) mostPower
     ∷ always (powerOf n * powerDen n) (powerNum n + 2 * powerDen n)
     ∷ always (powerNum n) ((powerOf n + 2) * powerDen n)
     ∷ []
 
-years-pass : T (all (λ (n : ℕ). passes (rules-of n)) 0 46)
+years-pass : T (all (λ (n : ℕ). compare (comparisons n)) 0 46)
 unfolding powerOf halfUp
 years-pass = tt
 
@@ -35,17 +35,17 @@ unfolding powerOf
 power-more n p e = rw (e, add-one)
 
 module _ (n : ℕ) (few : n ≤ 45) where
-  rules : Hold (rules-of n)
-  rules = hold (rules-of n) (all-at (λ (n : ℕ). passes (rules-of n)) 0 46 years-pass n (omega arith) (omega arith))
+  facts : AllTrue (comparisons n)
+  facts = compared (comparisons n) (all-at (λ (n : ℕ). compare (comparisons n)) 0 46 years-pass n (omega arith) (omega arith))
 
   pub power-most : powerOf n ≤ mostPower
-  power-most = rules .0
+  power-most = facts .0
 
   pub power-close : NearPower 2 n (powerOf n)
-  power-close = record { positive = one-le-pow n 1000 (omega arith); above = rules .1 .0; below = rules .1 .1 .0 }
+  power-close = record { positive = one-le-pow n 1000 (omega arith); above = facts .1 .0; below = facts .1 .1 .0 }
 
-pub power-told : PowerTold
-power-told =
+pub power-distance : PowerDistance
+power-distance =
     record {
       near = λ n few. near-wider (omega arith) (power-close n few);
       close = λ n few. near-wider (omega arith) (power-close n few);

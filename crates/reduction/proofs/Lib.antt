@@ -9,5 +9,5 @@ pub mod Candidates
 pub mod Earliest
 pub mod Answers
 pub mod Searching
-pub mod Told
+pub mod Clauses
 pub mod Bounds

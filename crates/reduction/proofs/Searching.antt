@@ -21,7 +21,7 @@ use Rattle.reduction.specs.Answer.{answeredReduction, reductionLimitOf}
 use Rattle.reduction.specs.Noted.{nothingNoted, notedAt}
 use Rattle.reduction.proofs.Growth.{power-more, power-most}
 use Rattle.reduction.proofs.Candidates.{searchFrom, earliestAge, candidate-least, candidate-first, candidate-later, candidates-rise, candidates-apart, below-npa, not-below-npa, first-below, age-before, years-few}
-use Rattle.reduction.proofs.Answers.{triedOf, tried, answered, shown-untaken, shown-taken}
+use Rattle.reduction.proofs.Answers.{triedOf, tried, answer-shown, shown-untaken, shown-taken}
 
 -- before candidate k, of this age: its power, what is left to search, and the B of the candidates before it, all of them below NPA
 pub record Searching (a : Application) (k age power : ℕ) (p : Potentials) : Type 0 where
@@ -55,9 +55,9 @@ module _ (a : Application) (in-it : InRange a) {age : ℕ} (first : age ≡ max 
   unfolding yearsTo
   first-few = omega (arith, candidate-first a first, years-few a in-it 0 (omega arith))
 
-  pub begun : {power : ℕ} {p : Potentials} → power ≡ powerOf (age - a .age) → p ≡ nothingNoted → Searching a 0 age power p
+  pub search-begun : {power : ℕ} {p : Potentials} → power ≡ powerOf (age - a .age) → p ≡ nothingNoted → Searching a 0 age power p
   unfolding triedOf yearsTo
-  begun e nothing =
+  search-begun e nothing =
       let is = candidate-first a first in
       record {
         in-it = in-it;
@@ -74,8 +74,8 @@ module _ (a : Application) {k age power : ℕ} {p : Potentials} (s : Searching a
   unfolding yearsTo
   years-are = ap (λ (n : ℕ). n - a .age) (s .is)
 
-  pub later : a .age ≤ age
-  later = omega (arith, s .is, age-before a (s .in-it) k)
+  pub later-age : a .age ≤ age
+  later-age = omega (arith, s .is, age-before a (s .in-it) k)
 
   pub power-is : power ≡ powerOf (age - a .age)
   power-is = s .grown ∙ ap powerOf (sym years-are)
@@ -98,26 +98,26 @@ module _ (a : Application) {k age power : ℕ} {p : Potentials} (s : Searching a
       λ j. by-test (ltb j k)
       (λ e. rw e (before-below j e))
       (λ e. rw e (not-below-npa a j (omega (arith, candidates-rise a k j (ltb-false j k e), s .is)))) in
-      rw (s .noted) (answered a (s .in-it) k 0 none (λ j l. shown-untaken a k j (at-npa j)))
+      rw (s .noted) (answer-shown a (s .in-it) k 0 none (λ j l. shown-untaken a k j (at-npa j)))
 
   -- no candidate is left
-  pub none-left : 3 ≤ k → answeredReduction 0 p ≡ reductionLimitOf a
+  pub no-candidate-left : 3 ≤ k → answeredReduction 0 p ≡ reductionLimitOf a
   unfolding searchBy
-  none-left h =
+  no-candidate-left h =
       let over : 3 - k ≡ 0 = omega arith in
       let none : earliestAge a ≡ 0 = s .rest ∙ rw over in
       let all : (j : ℕ) → j < 3 → ltb j k ≡ true = λ j l. lt-ltb j k (omega arith) in
-      rw (s .noted) (answered a (s .in-it) k 0 none (λ j l. shown-untaken a k j (before-below j (all j l) ∙ sym (all j l))))
+      rw (s .noted) (answer-shown a (s .in-it) k 0 none (λ j l. shown-untaken a k j (before-below j (all j l) ∙ sym (all j l))))
 
   -- an age is none of the 0s that say that there is no scope
   pub some-age : true ≡ ltb 0 age
   some-age = sym (lt-ltb 0 age (omega (arith, s .is, candidate-least a k)))
 
-  pub years-most : k < 3 → age - a .age ≤ 45
-  years-most h = omega (arith, years-are, years-few a (s .in-it) k h)
+  pub candidate-years : k < 3 → age - a .age ≤ 45
+  candidate-years h = omega (arith, years-are, years-few a (s .in-it) k h)
 
   pub power-fits : k < 3 → power * 1015 < 2 ^ 64
-  power-fits h = omega (arith, power-is, power-most (age - a .age) (years-most h))
+  power-fits h = omega (arith, power-is, power-most (age - a .age) (candidate-years h))
 
   -- a candidate below NPA
   module _ (low : age < a .npa) where
@@ -142,7 +142,7 @@ module _ (a : Application) {k age power : ℕ} {p : Potentials} (s : Searching a
         unfolding searchBy
         taken-here e =
             let found : earliestAge a ≡ candidateOf a k = searching-on h ∙ rw (below-npa a k here-below, test told e) in
-            rw (noted, more, s .is) (answered a (s .in-it) (k + 1) (candidateOf a k) found (λ j l. shown-taken a k here-below j))
+            rw (noted, more, s .is) (answer-shown a (s .in-it) (k + 1) (candidateOf a k) found (λ j l. shown-taken a k here-below j))
 
         pub one-further : {next : ℕ} → t ≡ false → next ≡ halfUp (power * 1015) 1000 → Searching a (k + 1) (age + 1) next q
         unfolding yearsTo

@@ -20,13 +20,13 @@ pub record ReductionNumbers : Type 0 where
   pub third : ℕ
 
 -- by the age that the search gives, 0 for none: B of candidate k if it is below NPA and not after the one taken; else 0
-unfoldable pub shownOf : Application → (age k : ℕ) → ℕ
-shownOf a age k = pick (belowNpa a k && (eqb age 0 || leb (candidateOf a k) age)) (potentialAt a k) 0
+unfoldable pub potentialShown : Application → (age k : ℕ) → ℕ
+potentialShown a age k = pick (belowNpa a k && (eqb age 0 || leb (candidateOf a k) age)) (potentialAt a k) 0
 
 -- what is answered by that age
 abbrev pub foundReduction : Application → (age : ℕ) → ReductionNumbers
 foundReduction a age =
-    record { refusal = 0; age = age; first = shownOf a age 0; second = shownOf a age 1; third = shownOf a age 2 }
+    record { refusal = 0; age = age; first = potentialShown a age 0; second = potentialShown a age 1; third = potentialShown a age 2 }
 
 -- 18, all other fields 0
 abbrev pub refusedReduction : ReductionNumbers
@@ -45,16 +45,16 @@ abbrev pub answeredReduction : (age : ℕ) → Potentials → ReductionNumbers
 answeredReduction age p = record { refusal = 0; age = age; first = p .first .0; second = p .second .0; third = p .third .0 }
 
 -- document 02's numbers for each case of an answer
-abbrev pub numbersOf : ReductionLimit → ReductionNumbers
-numbersOf Refused = refusedReduction
-numbersOf (NoScope p) = answeredReduction 0 p
-numbersOf (Found age p) = answeredReduction age p
+abbrev pub numbersOfReduction : ReductionLimit → ReductionNumbers
+numbersOfReduction Refused = refusedReduction
+numbersOfReduction (NoScope p) = answeredReduction 0 p
+numbersOfReduction (Found age p) = answeredReduction age p
 
 -- whether an answer is a refusal
-abbrev pub isRefused : ReductionLimit → Bool
-isRefused Refused = true
-isRefused (NoScope p) = false
-isRefused (Found age p) = false
+abbrev pub reductionIsRefused : ReductionLimit → Bool
+reductionIsRefused Refused = true
+reductionIsRefused (NoScope p) = false
+reductionIsRefused (Found age p) = false
 
 -- whether it has an age
 abbrev pub hasScope : ReductionLimit → Bool

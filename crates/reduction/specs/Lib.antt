@@ -2,9 +2,10 @@ pub mod Near
 pub mod Power
 pub mod Potential
 pub mod Range
+pub mod Halves
 pub mod Search
 pub mod Answer
-pub mod Told
+pub mod Clauses
 pub mod CutOff
 pub mod Bounds
 pub mod Noted

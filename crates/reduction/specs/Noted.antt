@@ -1,4 +1,4 @@
--- How the code keeps the B of the candidates that it has tried.
+-- Not rules: how the code keeps the B of the candidates that it has tried.
 -- Assumes nothing.
 use Prim.Native.Nat.{ℕ, zero, suc}
 use Rattle.money.specs.declared.PensionPence.{PensionPence}

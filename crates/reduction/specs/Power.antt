@@ -25,6 +25,6 @@ abbrev pub NearPower : (s n p : ℕ) → Type 0
 NearPower s n p = Near s p (powerNum n) (powerDen n)
 
 -- up to 45 years the power is within 32 billionths of the exact one, and even within 2
-pub record PowerTold : Type 0 where
+pub record PowerDistance : Type 0 where
   pub near : (n : ℕ) → n ≤ 45 → NearPower 32 n (powerOf n)
   pub close : (n : ℕ) → n ≤ 45 → NearPower 2 n (powerOf n)

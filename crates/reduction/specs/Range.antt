@@ -1,34 +1,31 @@
--- Request 4 of document 02: what an application may hold, and what is refused with 18, in two halves as the code tests it.
+-- Request 4 of document 02: what an application may hold, and what is refused with 18.
 -- Assumes nothing.
 use mathlib.Core.Bool.{Bool, _||_}
 use Prim.Native.Nat.{ℕ, _≤_}
 use lib.Dec.{ltb}
+use Rattle.scheme.specs.Scheme.{poundsInPence}
 use Rattle.reduction.specs.declared.Application.{Application}
 
 -- £1,000,000 a year in pence
 abbrev pub mostPence : ℕ
-mostPence = 100000000
+mostPence = poundsInPence 1000000
 
 -- x is none of the numbers from least to most
 unfoldable pub outside : (least most x : ℕ) → Bool
 outside least most x = ltb x least || ltb most x
 
--- the pension age not 66 to 70, the age not 24 to 64, the pay not £1 to £200,000
-unfoldable pub wrongMember : Application → Bool
-wrongMember a = outside 66 70 (a .npa) || (outside 24 64 (a .age) || outside 1 200000 (a .pay))
-
--- a factor above 1,000 thousandths, whether it is used or not; A or L above £1,000,000
-unfoldable pub wrongAmounts : Application → Bool
-wrongAmounts a =
-    ltb 1000 (a .«erf_first»)
+-- 18: the pension age is not 66 to 70, the age not 24 to 64, the pay not £1 to £200,000; a factor is above 1,000 thousandths, whether it
+-- is used or not; A or L is above £1,000,000
+unfoldable pub outOfRange : Application → Bool
+outOfRange a =
+    outside 66 70 (a .npa)
+    || (outside 24 64 (a .age)
+    || (outside 1 200000 (a .pay)
+    || (ltb 1000 (a .«erf_first»)
     || (ltb 1000 (a .«erf_second»)
     || (ltb 1000 (a .«erf_third»)
     || (ltb mostPence (a .existing .0)
-    || ltb mostPence (a .limit .0))))
-
--- 18: any of these
-unfoldable pub outOfRange : Application → Bool
-outOfRange a = wrongMember a || wrongAmounts a
+    || ltb mostPence (a .limit .0)))))))
 
 -- an application that 18 does not refuse
 pub record InRange (a : Application) : Type 0 where

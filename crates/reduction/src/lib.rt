@@ -6,10 +6,11 @@ ghost use Rattle.rounding.specs.Nearest.{halfUp};
 ghost use Rattle.money.specs.Money.{pension};
 ghost use Rattle.reduction.specs.Power.{powerOf};
 ghost use Rattle.reduction.specs.Potential.{potentialOf};
-ghost use Rattle.reduction.specs.Range.{outside, wrongMember, wrongAmounts, outOfRange};
+ghost use Rattle.reduction.specs.Range.{outside, outOfRange};
+ghost use Rattle.reduction.specs.Halves.{wrongMember, wrongAmounts};
 ghost use Rattle.reduction.specs.Search.{factorOf, takes};
-ghost use Rattle.reduction.specs.Answer.{reductionLimitOf, numbersOf, isRefused, hasScope};
-ghost use Rattle.reduction.specs.Told.{RefusedReductionTold, AcceptedTold};
+ghost use Rattle.reduction.specs.Answer.{reductionLimitOf, numbersOfReduction, reductionIsRefused, hasScope};
+ghost use Rattle.reduction.specs.Clauses.{ReductionRefusals, ReductionAnswered};
 ghost use Rattle.reduction.specs.Noted.{nothingNoted, notedAt};
 use money::PensionPence;
 
@@ -208,10 +209,10 @@ impl Potentials {
 // The first candidate below NPA that is taken, with the B of those up to it; or no scope, with the B of all below NPA. The power of each
 // candidate is that of the one before it, a year further.
 pub fn reduction_limit(a: Application) -> ReductionLimit
-    ensures is { λ r. ⌜ numbersOf r ≡ reductionLimitOf a ⌝ }
-    ensures refusals { λ r. ⌜ RefusedReductionTold a (numbersOf r) ⌝ }
-    ensures accepted { λ r. ⌜ AcceptedTold a (numbersOf r) ⌝ }
-    ensures refused { λ r. ⌜ isRefused r ≡ ltb 0 (reductionLimitOf a .refusal) ⌝ }
+    ensures is { λ r. ⌜ numbersOfReduction r ≡ reductionLimitOf a ⌝ }
+    ensures refusals { λ r. ⌜ ReductionRefusals a (numbersOfReduction r) ⌝ }
+    ensures answered { λ r. ⌜ ReductionAnswered a (numbersOfReduction r) ⌝ }
+    ensures refused { λ r. ⌜ reductionIsRefused r ≡ ltb 0 (reductionLimitOf a .refusal) ⌝ }
     ensures scope { λ r. ⌜ hasScope r ≡ ltb 0 (reductionLimitOf a .age) ⌝ }
 {
     if out_of_range(a) {

@@ -8,11 +8,11 @@ use lib.Dec.{ltb}
 use borrow.Author.Needs.{needs}
 use Rattle.reduction.specs.declared.Application.{Application}
 use Rattle.reduction.specs.Answer.{ReductionNumbers, reductionLimitOf}
-use Rattle.reduction.specs.Told.{RefusedReductionTold, AcceptedTold}
+use Rattle.reduction.specs.Clauses.{ReductionRefusals, ReductionAnswered}
 use Rattle.reduction.proofs.Range.{in-range}
 use Rattle.reduction.proofs.Candidates.{factor-most}
-use Rattle.reduction.proofs.Searching.{Searching, first-later, first-few, begun, later, power-is, years-most, power-fits, some-age, past-npa, none-left, taken-here, one-further}
-use Rattle.reduction.proofs.Told.{refused, refused-reduction-told, accepted-told}
+use Rattle.reduction.proofs.Searching.{Searching, first-later, first-few, search-begun, later-age, power-is, candidate-years, power-fits, some-age, past-npa, no-candidate-left, taken-here, one-further}
+use Rattle.reduction.proofs.Clauses.{reduction-refused, reduction-refusals, reduction-answered}
 use Rattle.reduction.proofs.reduction_limit.Statement.{statement}
 use Rattle.reduction.proofs.reduction_limit.Tie as tie
 
@@ -30,7 +30,7 @@ module _ (a : Application) where
   abbrev Promised : ReductionNumbers → Bool → Bool → Type 0
   Promised n refusal scope =
       (n ≡ answer)
-      × (RefusedReductionTold a n × (AcceptedTold a n × ((refusal ≡ ltb 0 (answer .refusal)) × (scope ≡ ltb 0 (answer .age)))))
+      × (ReductionRefusals a n × (ReductionAnswered a n × ((refusal ≡ ltb 0 (answer .refusal)) × (scope ≡ ltb 0 (answer .age)))))
 
   -- of one with the right numbers, whose case is the one that they say
   promised : {n : ReductionNumbers} {refusal scope : Bool} → n ≡ answer → refusal ≡ ltb 0 (n .refusal) → scope ≡ ltb 0 (n .age)
@@ -38,9 +38,9 @@ module _ (a : Application) where
   promised is says-refusal says-scope = (
     is,
     (
-      subst (RefusedReductionTold a) (sym is) (refused-reduction-told a),
+      subst (ReductionRefusals a) (sym is) (reduction-refusals a),
       (
-        subst (AcceptedTold a) (sym is) (accepted-told a),
+        subst (ReductionAnswered a) (sym is) (reduction-answered a),
         (
           says-refusal ∙ ap (λ (n : ReductionNumbers). ltb 0 (n .refusal)) is,
           says-scope ∙ ap (λ (n : ReductionNumbers). ltb 0 (n .age)) is,
@@ -53,7 +53,7 @@ out-of-range-requires : tie.Need-out-of-range-requires Inv-loop μ-loop
 out-of-range-requires c κs = search needs
 
 returns : tie.Need-returns Inv-loop μ-loop
-returns c = promised _ (sym (refused _ (sym (c .before .out-of-range .ensures) ∙ c .if1 .taken))) refl refl
+returns c = promised _ (sym (reduction-refused _ (sym (c .before .out-of-range .ensures) ∙ c .if1 .taken))) refl refl
 
 none-requires : tie.Need-none-requires Inv-loop μ-loop
 none-requires c κs = search needs
@@ -74,7 +74,7 @@ power-to-requires c κs =
 loop-holds : tie.Need-loop-holds Inv-loop μ-loop
 loop-holds c =
     let b = c .before .before .before .before .before .before in
-    begun _ (in-range _ (sym (b .before .out-of-range .ensures) ∙ b .if1 .left)) (c .before .before .first-candidate .ensures)
+    search-begun _ (in-range _ (sym (b .before .out-of-range .ensures) ∙ b .if1 .left)) (c .before .before .first-candidate .ensures)
     (c .power-to .ensures) (c .before .before .before .none .ensures)
 
 returns-2 : tie.Need-returns-2 Inv-loop μ-loop
@@ -85,7 +85,7 @@ returns-2 c =
 sub-potential : tie.Need-sub-potential Inv-loop μ-loop
 sub-potential c =
     let b = c .before in
-    omega (arith, later _ (b .before .before .before .loop .inv), b .if2 .left)
+    omega (arith, later-age _ (b .before .before .before .loop .inv), b .if2 .left)
 
 factor-requires : tie.Need-factor-requires Inv-loop μ-loop
 factor-requires c κs = search needs
@@ -94,7 +94,7 @@ potential-requires : tie.Need-potential-requires Inv-loop μ-loop
 potential-requires c κs =
     let b = c .before .before in
     let s = b .before .before .before .loop .inv in (
-      years-most _ s (omega (arith, b .before .before .loop-test .taken)),
+      candidate-years _ s (omega (arith, b .before .before .loop-test .taken)),
       (power-is _ s, (s .in-it .pay-high, rw (c .factor .ensures) (factor-most _ (s .in-it) _))),
     )
 
@@ -140,7 +140,7 @@ loop-again c =
     (c .before .if3 .left) (c .grown .ensures)
 
 returns-4 : tie.Need-returns-4 Inv-loop μ-loop
-returns-4 c = promised _ (none-left _ (c .before .loop .inv) (c .loop-test .left)) refl refl
+returns-4 c = promised _ (no-candidate-left _ (c .before .loop .inv) (c .loop-test .left)) refl refl
 
 pub reduction-limit-spec : {M : Type 1} → statement M
 reduction-limit-spec =

@@ -4,7 +4,8 @@ use mathlib.Core.Path.{sym, _∙_}
 use borrow.Author.Needs.{needs}
 use borrow.Author.Tests.{le-ltb}
 use Rattle.common.proofs.Tests.{tests}
-use Rattle.reduction.specs.Range.{mostPence, wrongAmounts}
+use Rattle.reduction.specs.Range.{mostPence}
+use Rattle.reduction.specs.Halves.{wrongAmounts}
 use Rattle.reduction.proofs.Compared.{above-known}
 use Rattle.reduction.proofs.wrong_amounts.Statement.{statement}
 use Rattle.reduction.proofs.wrong_amounts.Tie as tie

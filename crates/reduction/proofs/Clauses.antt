@@ -11,8 +11,8 @@ use Rattle.common.proofs.Tests.{by-test, or-true}
 use Rattle.reduction.specs.declared.Application.{Application}
 use Rattle.reduction.specs.Range.{outOfRange, InRange}
 use Rattle.reduction.specs.Search.{candidateOf, potentialAt, takesAt, belowNpa, searchBy}
-use Rattle.reduction.specs.Answer.{ReductionNumbers, shownOf, refusedReduction, reductionBy, reductionLimitOf}
-use Rattle.reduction.specs.Told.{givenFor, Shown, RefusedReductionTold, AcceptedTold}
+use Rattle.reduction.specs.Answer.{ReductionNumbers, potentialShown, refusedReduction, reductionBy, reductionLimitOf}
+use Rattle.reduction.specs.Clauses.{givenFor, Shown, ReductionRefusals, ReductionAnswered}
 use Rattle.reduction.proofs.Near.{near-wider}
 use Rattle.reduction.proofs.Range.{in-range, not-out}
 use Rattle.reduction.proofs.Headroom.{takes-none}
@@ -24,9 +24,9 @@ module _ (a : Application) where
   answer = reductionLimitOf a
 
   -- out of range
-  pub refused : outOfRange a ≡ true → answer ≡ refusedReduction
+  pub reduction-refused : outOfRange a ≡ true → answer ≡ refusedReduction
   unfolding reductionLimitOf reductionBy
-  refused e = rw e
+  reduction-refused e = rw e
 
   -- an answer that is no refusal
   fine : answer .refusal ≡ 0 → outOfRange a ≡ false
@@ -46,7 +46,7 @@ module _ (a : Application) where
     unfolding reductionLimitOf reductionBy
     age-is = rw in-it
 
-    given-is : (k : ℕ) → k < 3 → givenFor answer k ≡ shownOf a (earliestAge a) k
+    given-is : (k : ℕ) → k < 3 → givenFor answer k ≡ potentialShown a (earliestAge a) k
     unfolding reductionLimitOf reductionBy
     given-is zero h = rw in-it
     given-is (suc zero) h = rw in-it
@@ -63,16 +63,16 @@ module _ (a : Application) where
         )
 
     -- what is shown, and what is not
-    shows : (k : ℕ) → Shown a (earliestAge a) k → shownOf a (earliestAge a) k ≡ potentialAt a k
-    unfolding shownOf
+    shows : (k : ℕ) → Shown a (earliestAge a) k → potentialShown a (earliestAge a) k ≡ potentialAt a k
+    unfolding potentialShown
     shows k s =
         ⊎-elim
         (λ z. rw (below-npa a k (s .below), eq-eqb (earliestAge a) 0 z))
         (λ l. rw (below-npa a k (s .below), le-leb (candidateOf a k) (earliestAge a) l, or-true (eqb (earliestAge a) 0)))
         (s .until)
 
-    hides : (k : ℕ) → k < 3 → (Shown a (earliestAge a) k → ⊥) → shownOf a (earliestAge a) k ≡ 0
-    unfolding shownOf
+    hides : (k : ℕ) → k < 3 → (Shown a (earliestAge a) k → ⊥) → potentialShown a (earliestAge a) k ≡ 0
+    unfolding potentialShown
     hides k h hidden =
         by-test (belowNpa a k)
         (λ b. by-test (eqb (earliestAge a) 0)
@@ -82,11 +82,11 @@ module _ (a : Application) where
         (λ l. rw (b, z, l))))
         (λ b. rw b)
 
-  pub refused-reduction-told : RefusedReductionTold a answer
-  refused-reduction-told =
+  pub reduction-refusals : ReductionRefusals a answer
+  reduction-refusals =
       record {
-        eighteen = λ out. rw (refused (is-out out));
-        zeros = λ out. rw (refused (is-out out)) (refl, (refl, (refl, refl)));
+        eighteen = λ out. rw (reduction-refused (is-out out));
+        zeros = λ out. rw (reduction-refused (is-out out)) (refl, (refl, (refl, refl)));
         none = λ in-it. no-refusal (not-out a in-it);
         in-range = λ z. in-range a (fine z);
       }
@@ -94,8 +94,8 @@ module _ (a : Application) where
       is-out : (InRange a → ⊥) → outOfRange a ≡ true
       is-out out = by-test (outOfRange a) (λ e. e) (λ e. absurd (out (in-range a e)))
 
-  pub accepted-told : AcceptedTold a answer
-  accepted-told =
+  pub reduction-answered : ReductionAnswered a answer
+  reduction-answered =
       record {
         earliest = λ z some. rw (age-is (fine z)) (given-earliest a (λ e. some (age-is (fine z) ∙ e)));
         no-scope = λ z none. none-given a (sym (age-is (fine z)) ∙ none);

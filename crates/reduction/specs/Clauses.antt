@@ -41,7 +41,7 @@ pub record Shown (a : Application) (age k : ℕ) : Type 0 where
   pub until : (age ≡ 0) ⊎ (candidateOf a k ≤ age)
 
 -- what is refused
-pub record RefusedReductionTold (a : Application) (n : ReductionNumbers) : Type 0 where
+pub record ReductionRefusals (a : Application) (n : ReductionNumbers) : Type 0 where
   -- where an input is out of range, 18 and nothing else,
   pub eighteen : (InRange a → ⊥) → n .refusal ≡ 18
   pub zeros : (InRange a → ⊥) → (n .age ≡ 0) × ((n .first ≡ 0) × ((n .second ≡ 0) × (n .third ≡ 0)))
@@ -50,7 +50,7 @@ pub record RefusedReductionTold (a : Application) (n : ReductionNumbers) : Type 
   pub in-range : n .refusal ≡ 0 → InRange a
 
 -- what an application is answered that is not refused
-pub record AcceptedTold (a : Application) (n : ReductionNumbers) : Type 0 where
+pub record ReductionAnswered (a : Application) (n : ReductionNumbers) : Type 0 where
   -- an age that is given is the earliest candidate that passes
   pub earliest : n .refusal ≡ 0 → (n .age ≡ 0 → ⊥) → EarliestPassing a (n .age)
   -- 0 is given just where none does
