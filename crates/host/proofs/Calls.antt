@@ -6,8 +6,9 @@ use Prim.Native.Nat.{ℕ, _≤_, _<_}
 use native.Mathlib.Omega.{arith}
 use borrow.Author.Tests.{lt-ltb, le-ltb}
 use lib.ListN.{length, getD, drop}
-use Rattle.number_bytes.specs.Bytes.{storedIn}
+use Rattle.number_bytes.specs.Stored.{storedIn}
 use Rattle.number_bytes.proofs.Writing.{stored-front}
+use Rattle.scheme.specs.Bounds.{lastOfQuote, lastOfSettle}
 use Rattle.terms.specs.declared.Terms.{Terms}
 use Rattle.quotes.specs.Quote.{QuoteNumbers, quoteOf}
 use Rattle.settlement.specs.Settle.{SettleNumbers, settleOf}
@@ -30,33 +31,33 @@ enough : {A : Type 0} (refusal : A → ℕ) (bytes : A → List ℕ) (size : ℕ
     → size ≤ length buffer → n ≡ m → (value ≡ refusal n) × (after ≡ bytes n ++ drop size buffer)
     → (value ≡ answerIn size (refusal m) (bytes m) buffer .value) × (after ≡ answerIn size (refusal m) (bytes m) buffer .buffer)
 unfolding answerIn
-enough {A} refusal bytes size buffer n m h is told =
-    rw (le-ltb (length buffer) size h) (told .0 ∙ ap refusal is, told .1 ∙ ap (λ (a : A). bytes a ++ drop size buffer) is)
+enough {A} refusal bytes size buffer n m h is is-stored =
+    rw (le-ltb (length buffer) size h) (is-stored .0 ∙ ap refusal is, is-stored .1 ∙ ap (λ (a : A). bytes a ++ drop size buffer) is)
 
 -- the value of a call that has room is small
 
 -- the first number that is stored is the refusal
-stored-first-most : {A : Type 0} (refusal : A → ℕ) (most : ℕ) {n m : A} {told rest : List ℕ} → n ≡ m → told ≡ refusal n ∷ rest → refusal m ≤ most
-    → getD told 0 0 ≤ most
+stored-first-most : {A : Type 0} (refusal : A → ℕ) (most : ℕ) {n m : A} {numbers rest : List ℕ} → n ≡ m → numbers ≡ refusal n ∷ rest → refusal m ≤ most
+    → getD numbers 0 0 ≤ most
 stored-first-most refusal most is e h = omega (arith, ap (λ (l : List ℕ). getD l 0 0) e, ap refusal is)
 
-pub quote-value-most : (t : Terms) (existing last : ℕ) {n : QuoteNumbers} {told : List ℕ} → n ≡ quoteOf t existing last
-    → told ≡ n .refusal ∷ n .contribution ∷ n .next ∷ [] → getD told 0 0 ≤ 9
-quote-value-most t existing last is e = stored-first-most (λ (n : QuoteNumbers). n .refusal) 9 is e (quote-bounds t existing last .refusal-most)
+pub quote-value-most : (t : Terms) (existing last : ℕ) {n : QuoteNumbers} {numbers : List ℕ} → n ≡ quoteOf t existing last
+    → numbers ≡ n .refusal ∷ n .contribution ∷ n .next ∷ [] → getD numbers 0 0 ≤ lastOfQuote
+quote-value-most t existing last is e = stored-first-most (λ (n : QuoteNumbers). n .refusal) lastOfQuote is e (quote-bounds t existing last .refusal-most)
 
-pub settle-value-most : (t : Terms) (marks : List ℕ) {n : SettleNumbers} → n ≡ settleOf t marks → n .refusal ≤ 12
+pub settle-value-most : (t : Terms) (marks : List ℕ) {n : SettleNumbers} → n ≡ settleOf t marks → n .refusal ≤ lastOfSettle
 settle-value-most t marks is = omega (arith, ap (λ (n : SettleNumbers). n .refusal) is, settle-bounds t marks .refusal-most)
 
-pub pay-off-value-most : (t : Terms) (marks : List ℕ) (ageNow increase : ℕ) {n : PayOffNumbers} {told : List ℕ}
-    → n ≡ payOffOf t marks ageNow increase → told ≡ n .refusal ∷ n .place ∷ n .remaining ∷ n .increased ∷ n .cost ∷ [] → getD told 0 0 ≤ 17
+pub pay-off-value-most : (t : Terms) (marks : List ℕ) (ageNow increase : ℕ) {n : PayOffNumbers} {numbers : List ℕ}
+    → n ≡ payOffOf t marks ageNow increase → numbers ≡ n .refusal ∷ n .place ∷ n .remaining ∷ n .increased ∷ n .cost ∷ [] → getD numbers 0 0 ≤ 17
 pay-off-value-most t marks ageNow increase is e =
     stored-first-most (λ (n : PayOffNumbers). n .refusal) 17 is e (pay-off-bounds t marks ageNow increase .refusal-most)
 
-pub reduction-value-most : (a : Application) {n : ReductionNumbers} {told : List ℕ} → n ≡ reductionLimitOf a
-    → told ≡ n .refusal ∷ n .age ∷ n .first ∷ n .second ∷ n .third ∷ [] → getD told 0 0 ≤ 18
+pub reduction-value-most : (a : Application) {n : ReductionNumbers} {numbers : List ℕ} → n ≡ reductionLimitOf a
+    → numbers ≡ n .refusal ∷ n .age ∷ n .first ∷ n .second ∷ n .third ∷ [] → getD numbers 0 0 ≤ 18
 reduction-value-most a is e = stored-first-most (λ (n : ReductionNumbers). n .refusal) 18 is e (reduction-bounds a .refusal-most)
 
--- what is told
+-- the two outcomes
 
 module _ (t : Terms) (existing last : ℕ) (buffer : List ℕ) where
   pub quote-short : length buffer < 24
@@ -68,14 +69,14 @@ module _ (t : Terms) (existing last : ℕ) (buffer : List ℕ) where
       → (value ≡ n .refusal) × (after ≡ quoteBytes n ++ drop 24 buffer)
       → (value ≡ hostQuoteOf t existing last buffer .value) × (after ≡ hostQuoteOf t existing last buffer .buffer)
   unfolding hostQuoteOf
-  quote-enough h is told = enough (λ (n : QuoteNumbers). n .refusal) quoteBytes 24 buffer _ _ h is told
+  quote-enough h is is-stored = enough (λ (n : QuoteNumbers). n .refusal) quoteBytes 24 buffer _ _ h is is-stored
 
   -- where the numbers of the quote are stored, in their order
-  pub quote-told : {n : QuoteNumbers} {told after : List ℕ} → 24 ≤ length buffer → n ≡ quoteOf t existing last
-      → told ≡ n .refusal ∷ n .contribution ∷ n .next ∷ [] → after ≡ storedIn told buffer
-      → (getD told 0 0 ≡ hostQuoteOf t existing last buffer .value) × (after ≡ hostQuoteOf t existing last buffer .buffer)
+  pub quote-stored : {n : QuoteNumbers} {numbers after : List ℕ} → 24 ≤ length buffer → n ≡ quoteOf t existing last
+      → numbers ≡ n .refusal ∷ n .contribution ∷ n .next ∷ [] → after ≡ storedIn numbers buffer
+      → (getD numbers 0 0 ≡ hostQuoteOf t existing last buffer .value) × (after ≡ hostQuoteOf t existing last buffer .buffer)
   unfolding quoteBytes
-  quote-told h is e stored =
+  quote-stored h is e stored =
       quote-enough h is (ap (λ (l : List ℕ). getD l 0 0) e, stored ∙ ap (λ (l : List ℕ). storedIn l buffer) e ∙ stored-front _ buffer h)
 
 module _ (t : Terms) (marks buffer : List ℕ) where
@@ -88,14 +89,14 @@ module _ (t : Terms) (marks buffer : List ℕ) where
       → (value ≡ n .refusal) × (after ≡ settleBytes n ++ drop 48 buffer)
       → (value ≡ hostSettleOf t marks buffer .value) × (after ≡ hostSettleOf t marks buffer .buffer)
   unfolding hostSettleOf
-  settle-enough h is told = enough (λ (n : SettleNumbers). n .refusal) settleBytes 48 buffer _ _ h is told
+  settle-enough h is is-stored = enough (λ (n : SettleNumbers). n .refusal) settleBytes 48 buffer _ _ h is is-stored
 
   -- where the numbers of the settlement are stored, in their order
-  pub settle-told : {n : SettleNumbers} {after : List ℕ} → 48 ≤ length buffer → n ≡ settleOf t marks
+  pub settle-stored : {n : SettleNumbers} {after : List ℕ} → 48 ≤ length buffer → n ≡ settleOf t marks
       → after ≡ storedIn (n .refusal ∷ n .place ∷ n .contribution ∷ n .status ∷ n .credit ∷ n .refund ∷ []) buffer
       → (n .refusal ≡ hostSettleOf t marks buffer .value) × (after ≡ hostSettleOf t marks buffer .buffer)
   unfolding settleBytes
-  settle-told h is stored = settle-enough h is (refl, stored ∙ stored-front _ buffer h)
+  settle-stored h is stored = settle-enough h is (refl, stored ∙ stored-front _ buffer h)
 
 module _ (t : Terms) (marks : List ℕ) (ageNow increase : ℕ) (buffer : List ℕ) where
   pub pay-off-short : length buffer < 40
@@ -108,14 +109,14 @@ module _ (t : Terms) (marks : List ℕ) (ageNow increase : ℕ) (buffer : List �
       → (value ≡ n .refusal) × (after ≡ payOffBytes n ++ drop 40 buffer)
       → (value ≡ hostPayOffOf t marks ageNow increase buffer .value) × (after ≡ hostPayOffOf t marks ageNow increase buffer .buffer)
   unfolding hostPayOffOf
-  pay-off-enough h is told = enough (λ (n : PayOffNumbers). n .refusal) payOffBytes 40 buffer _ _ h is told
+  pay-off-enough h is is-stored = enough (λ (n : PayOffNumbers). n .refusal) payOffBytes 40 buffer _ _ h is is-stored
 
   -- where the numbers of the pay-off are stored, in their order
-  pub pay-off-told : {n : PayOffNumbers} {told after : List ℕ} → 40 ≤ length buffer → n ≡ payOffOf t marks ageNow increase
-      → told ≡ n .refusal ∷ n .place ∷ n .remaining ∷ n .increased ∷ n .cost ∷ [] → after ≡ storedIn told buffer
-      → (getD told 0 0 ≡ hostPayOffOf t marks ageNow increase buffer .value) × (after ≡ hostPayOffOf t marks ageNow increase buffer .buffer)
+  pub pay-off-stored : {n : PayOffNumbers} {numbers after : List ℕ} → 40 ≤ length buffer → n ≡ payOffOf t marks ageNow increase
+      → numbers ≡ n .refusal ∷ n .place ∷ n .remaining ∷ n .increased ∷ n .cost ∷ [] → after ≡ storedIn numbers buffer
+      → (getD numbers 0 0 ≡ hostPayOffOf t marks ageNow increase buffer .value) × (after ≡ hostPayOffOf t marks ageNow increase buffer .buffer)
   unfolding payOffBytes
-  pay-off-told h is e stored =
+  pay-off-stored h is e stored =
       pay-off-enough h is (ap (λ (l : List ℕ). getD l 0 0) e, stored ∙ ap (λ (l : List ℕ). storedIn l buffer) e ∙ stored-front _ buffer h)
 
 module _ (a : Application) (buffer : List ℕ) where
@@ -128,12 +129,12 @@ module _ (a : Application) (buffer : List ℕ) where
       → (value ≡ n .refusal) × (after ≡ reductionBytes n ++ drop 40 buffer)
       → (value ≡ hostReductionLimitOf a buffer .value) × (after ≡ hostReductionLimitOf a buffer .buffer)
   unfolding hostReductionLimitOf
-  reduction-enough h is told = enough (λ (n : ReductionNumbers). n .refusal) reductionBytes 40 buffer _ _ h is told
+  reduction-enough h is is-stored = enough (λ (n : ReductionNumbers). n .refusal) reductionBytes 40 buffer _ _ h is is-stored
 
   -- where the numbers of the reduction limit are stored, in their order
-  pub reduction-told : {n : ReductionNumbers} {told after : List ℕ} → 40 ≤ length buffer → n ≡ reductionLimitOf a
-      → told ≡ n .refusal ∷ n .age ∷ n .first ∷ n .second ∷ n .third ∷ [] → after ≡ storedIn told buffer
-      → (getD told 0 0 ≡ hostReductionLimitOf a buffer .value) × (after ≡ hostReductionLimitOf a buffer .buffer)
+  pub reduction-stored : {n : ReductionNumbers} {numbers after : List ℕ} → 40 ≤ length buffer → n ≡ reductionLimitOf a
+      → numbers ≡ n .refusal ∷ n .age ∷ n .first ∷ n .second ∷ n .third ∷ [] → after ≡ storedIn numbers buffer
+      → (getD numbers 0 0 ≡ hostReductionLimitOf a buffer .value) × (after ≡ hostReductionLimitOf a buffer .buffer)
   unfolding reductionBytes
-  reduction-told h is e stored =
+  reduction-stored h is e stored =
       reduction-enough h is (ap (λ (l : List ℕ). getD l 0 0) e, stored ∙ ap (λ (l : List ℕ). storedIn l buffer) e ∙ stored-front _ buffer h)

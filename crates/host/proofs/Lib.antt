@@ -1,3 +1,3 @@
 pub mod QuoteBounds
 pub mod Calls
-pub mod Reading
+pub mod ReadBack

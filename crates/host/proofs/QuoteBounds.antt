@@ -6,25 +6,26 @@ use borrow.Author.Tests.{eqb-true}
 use lib.Dec.{eqb, leb}
 use Rattle.common.proofs.Tests.{by-test}
 use Rattle.common.proofs.Choice.{either}
+use Rattle.scheme.specs.Bounds.{mostContribution, lastOfQuote}
 use Rattle.terms.specs.declared.Terms.{Terms}
 use Rattle.terms.specs.Rules.{refusalOf}
 use Rattle.terms.proofs.Laws.{refusal-most}
-use Rattle.election.proofs.Laws.{accepted-facts, contribution-most}
-use Rattle.quotes.specs.Quote.{QuoteNumbers, quoteRefusal, quoteOf}
+use Rattle.election.proofs.Laws.{terms-accepted, contribution-most}
+use Rattle.quotes.specs.Quote.{QuoteNumbers, lastNumber, quoteRefusal, quoteOf}
 use Rattle.quotes.proofs.Answers.{quote-passes}
 
 -- no number of a quote is larger
 pub record QuoteBounds (n : QuoteNumbers) : Type 0 where
-  pub refusal-most : n .refusal ≤ 9
-  pub contribution-most : n .contribution ≤ 11856000
-  pub next-most : n .next ≤ 999999
+  pub refusal-most : n .refusal ≤ lastOfQuote
+  pub contribution-most : n .contribution ≤ mostContribution
+  pub next-most : n .next ≤ lastNumber
 
 module _ (t : Terms) (existing last : ℕ) where
-  quote-refusal-most : quoteRefusal t existing last ≤ 9
+  quote-refusal-most : quoteRefusal t existing last ≤ lastOfQuote
   unfolding quoteRefusal
   quote-refusal-most =
-      either (λ (n : ℕ). n ≤ 9) (eqb (refusalOf t existing) 0)
-      (either (λ (n : ℕ). n ≤ 9) (leb 999999 last) (omega arith) (omega arith))
+      either (λ (n : ℕ). n ≤ lastOfQuote) (eqb (refusalOf t existing) 0)
+      (either (λ (n : ℕ). n ≤ lastOfQuote) (leb lastNumber last) (omega arith) (omega arith))
       (omega (arith, refusal-most t existing))
 
   pub quote-bounds : QuoteBounds (quoteOf t existing last)
@@ -36,7 +37,7 @@ module _ (t : Terms) (existing last : ℕ) where
       rw e
       record {
         refusal-most = omega arith;
-        contribution-most = contribution-most t existing (accepted-facts t existing (pass .0));
+        contribution-most = contribution-most t existing (terms-accepted t existing (pass .0));
         next-most = omega (arith, pass .1);
       })
       (λ e. rw e record { refusal-most = quote-refusal-most; contribution-most = omega arith; next-most = omega arith })

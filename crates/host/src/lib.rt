@@ -2,10 +2,10 @@
 // bytes in a lent buffer.
 ghost use mathlib.Core.Path.{_≡_};
 ghost use mathlib.Core.List.{[], _∷_};
-ghost use Rattle.quotes.specs.Quote.{numbersOf as quoteNumbers};
-ghost use Rattle.pay_off.specs.PayOff.{numbersOf as payOffNumbers};
-ghost use Rattle.reduction.specs.Answer.{numbersOf as reductionNumbers};
-ghost use Rattle.host.specs.Calls.{terms, application, hostQuoteOf, hostSettleOf, hostPayOffOf, hostReductionLimitOf};
+ghost use Rattle.quotes.specs.Quote.{numbersOfQuote};
+ghost use Rattle.pay_off.specs.PayOff.{numbersOfPayOff};
+ghost use Rattle.reduction.specs.Answer.{numbersOfReduction};
+ghost use Rattle.host.specs.Calls.{termsOf, applicationOf, hostQuoteOf, hostSettleOf, hostPayOffOf, hostReductionLimitOf};
 use money::PensionPence;
 use pay_off::PayOff;
 use quotes::QuoteAnswer;
@@ -35,7 +35,7 @@ const SHORT_BUFFER: u32 = 14;
 
 // What a quote answers, in the order in which it is stored.
 fn quote_numbers(q: Quoted) -> [u64; 3]
-    ensures { λ r. ⌜ r ≡ quoteNumbers q .refusal ∷ quoteNumbers q .contribution ∷ quoteNumbers q .next ∷ [] ⌝ }
+    ensures { λ r. ⌜ r ≡ numbersOfQuote q .refusal ∷ numbersOfQuote q .contribution ∷ numbersOfQuote q .next ∷ [] ⌝ }
 {
     let answer = q.answer;
     match answer {
@@ -49,7 +49,7 @@ fn quote_numbers(q: Quoted) -> [u64; 3]
 
 // What a pay-off answers, in the order in which it is stored.
 fn pay_off_numbers(answer: PayOff) -> [u64; 5]
-    ensures { λ r. ⌜ r ≡ payOffNumbers answer .refusal ∷ payOffNumbers answer .place ∷ payOffNumbers answer .remaining ∷ payOffNumbers answer .increased ∷ payOffNumbers answer .cost ∷ [] ⌝ }
+    ensures { λ r. ⌜ r ≡ numbersOfPayOff answer .refusal ∷ numbersOfPayOff answer .place ∷ numbersOfPayOff answer .remaining ∷ numbersOfPayOff answer .increased ∷ numbersOfPayOff answer .cost ∷ [] ⌝ }
 {
     match answer {
         PayOff::Refused { refusal, place } => [refusal as u64, place as u64, 0, 0, 0],
@@ -63,7 +63,7 @@ fn pay_off_numbers(answer: PayOff) -> [u64; 5]
 
 // What a reduction limit answers, in the order in which it is stored.
 fn reduction_numbers(answer: ReductionLimit) -> [u64; 5]
-    ensures { λ r. ⌜ r ≡ reductionNumbers answer .refusal ∷ reductionNumbers answer .age ∷ reductionNumbers answer .first ∷ reductionNumbers answer .second ∷ reductionNumbers answer .third ∷ [] ⌝ }
+    ensures { λ r. ⌜ r ≡ numbersOfReduction answer .refusal ∷ numbersOfReduction answer .age ∷ numbersOfReduction answer .first ∷ numbersOfReduction answer .second ∷ numbersOfReduction answer .third ∷ [] ⌝ }
 {
     match answer {
         ReductionLimit::Refused => [REFUSED_APPLICATION, 0, 0, 0, 0],
@@ -93,8 +93,8 @@ pub extern "C" fn ap_quote(
     last_number: u32,
     out: &mut [u8],
 ) -> u32
-    ensures value { λ r. ⌜ r ≡ hostQuoteOf (terms age «pnpa_years» «pnpa_months» option payer term amount) «existing_pence» «last_number» (now (out .entry)) .value ⌝ }
-    ensures buffer { λ r. ⌜ now (out .exit) ≡ hostQuoteOf (terms age «pnpa_years» «pnpa_months» option payer term amount) «existing_pence» «last_number» (now (out .entry)) .buffer ⌝ }
+    ensures value { λ r. ⌜ r ≡ hostQuoteOf (termsOf age «pnpa_years» «pnpa_months» option payer term amount) «existing_pence» «last_number» (now (out .entry)) .value ⌝ }
+    ensures buffer { λ r. ⌜ now (out .exit) ≡ hostQuoteOf (termsOf age «pnpa_years» «pnpa_months» option payer term amount) «existing_pence» «last_number» (now (out .entry)) .buffer ⌝ }
 {
     if out.len() < QUOTE_BYTES {
         return SHORT_BUFFER;
@@ -110,9 +110,9 @@ pub extern "C" fn ap_quote(
     };
     let existing = PensionPence(existing_pence);
     let register = Register { last: last_number };
-    let told = quote_numbers(quotes::quote(t, existing, register));
-    number_bytes::put_all(out, &told);
-    told[0] as u32
+    let numbers = quote_numbers(quotes::quote(t, existing, register));
+    number_bytes::put_all(out, &numbers);
+    numbers[0] as u32
 }
 
 // Settle. A buffer of fewer than 48 bytes is left as it is and gives 14. Otherwise its first 48 bytes are refusal, place,
@@ -129,8 +129,8 @@ pub extern "C" fn ap_settle(
     marks: &[u8],
     out: &mut [u8],
 ) -> u32
-    ensures value { λ r. ⌜ r ≡ hostSettleOf (terms age «pnpa_years» «pnpa_months» option payer term amount) (now (marks .entry)) (now (out .entry)) .value ⌝ }
-    ensures buffer { λ r. ⌜ now (out .exit) ≡ hostSettleOf (terms age «pnpa_years» «pnpa_months» option payer term amount) (now (marks .entry)) (now (out .entry)) .buffer ⌝ }
+    ensures value { λ r. ⌜ r ≡ hostSettleOf (termsOf age «pnpa_years» «pnpa_months» option payer term amount) (now (marks .entry)) (now (out .entry)) .value ⌝ }
+    ensures buffer { λ r. ⌜ now (out .exit) ≡ hostSettleOf (termsOf age «pnpa_years» «pnpa_months» option payer term amount) (now (marks .entry)) (now (out .entry)) .buffer ⌝ }
 {
     if out.len() < SETTLE_BYTES {
         return SHORT_BUFFER;
@@ -144,8 +144,8 @@ pub extern "C" fn ap_settle(
         term,
         amount,
     };
-    let n = numbers::numbers_of(settlement::settle(t, marks));
-    let told = [
+    let n = settlement::six_numbers_of(settlement::settle(t, marks));
+    let numbers = [
         n.refusal,
         n.place,
         n.contribution,
@@ -153,7 +153,7 @@ pub extern "C" fn ap_settle(
         n.credit,
         n.refund,
     ];
-    number_bytes::put_all(out, &told);
+    number_bytes::put_all(out, &numbers);
     n.refusal as u32
 }
 
@@ -173,8 +173,8 @@ pub extern "C" fn ap_pay_off(
     increase: u32,
     out: &mut [u8],
 ) -> u32
-    ensures value { λ r. ⌜ r ≡ hostPayOffOf (terms age «pnpa_years» «pnpa_months» option payer term amount) (now (marks .entry)) «age_now» increase (now (out .entry)) .value ⌝ }
-    ensures buffer { λ r. ⌜ now (out .exit) ≡ hostPayOffOf (terms age «pnpa_years» «pnpa_months» option payer term amount) (now (marks .entry)) «age_now» increase (now (out .entry)) .buffer ⌝ }
+    ensures value { λ r. ⌜ r ≡ hostPayOffOf (termsOf age «pnpa_years» «pnpa_months» option payer term amount) (now (marks .entry)) «age_now» increase (now (out .entry)) .value ⌝ }
+    ensures buffer { λ r. ⌜ now (out .exit) ≡ hostPayOffOf (termsOf age «pnpa_years» «pnpa_months» option payer term amount) (now (marks .entry)) «age_now» increase (now (out .entry)) .buffer ⌝ }
 {
     if out.len() < PAY_OFF_BYTES {
         return SHORT_BUFFER;
@@ -188,9 +188,9 @@ pub extern "C" fn ap_pay_off(
         term,
         amount,
     };
-    let answer = pay_off_numbers(pay_off::pay_off(t, marks, age_now, increase));
-    number_bytes::put_all(out, &answer);
-    answer[0] as u32
+    let numbers = pay_off_numbers(pay_off::pay_off(t, marks, age_now, increase));
+    number_bytes::put_all(out, &numbers);
+    numbers[0] as u32
 }
 
 // The reduction limit. A buffer of fewer than 40 bytes is left as it is and gives 14. Otherwise its first 40 bytes are refusal, age and
@@ -207,8 +207,8 @@ pub extern "C" fn ap_reduction_limit(
     limit_pence: u64,
     out: &mut [u8],
 ) -> u32
-    ensures value { λ r. ⌜ r ≡ hostReductionLimitOf (application npa age pay «erf_first» «erf_second» «erf_third» «existing_pence» «limit_pence») (now (out .entry)) .value ⌝ }
-    ensures buffer { λ r. ⌜ now (out .exit) ≡ hostReductionLimitOf (application npa age pay «erf_first» «erf_second» «erf_third» «existing_pence» «limit_pence») (now (out .entry)) .buffer ⌝ }
+    ensures value { λ r. ⌜ r ≡ hostReductionLimitOf (applicationOf npa age pay «erf_first» «erf_second» «erf_third» «existing_pence» «limit_pence») (now (out .entry)) .value ⌝ }
+    ensures buffer { λ r. ⌜ now (out .exit) ≡ hostReductionLimitOf (applicationOf npa age pay «erf_first» «erf_second» «erf_third» «existing_pence» «limit_pence») (now (out .entry)) .buffer ⌝ }
 {
     if out.len() < REDUCTION_LIMIT_BYTES {
         return SHORT_BUFFER;
@@ -223,7 +223,7 @@ pub extern "C" fn ap_reduction_limit(
         existing: PensionPence(existing_pence),
         limit: PensionPence(limit_pence),
     };
-    let found = reduction_numbers(reduction::reduction_limit(a));
-    number_bytes::put_all(out, &found);
-    found[0] as u32
+    let numbers = reduction_numbers(reduction::reduction_limit(a));
+    number_bytes::put_all(out, &numbers);
+    numbers[0] as u32
 }

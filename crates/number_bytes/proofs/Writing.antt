@@ -8,7 +8,8 @@ use native.Mathlib.Omega.{arith}
 use borrow.Author.Tests.{lt-ltb, le-ltb}
 use lib.ListN.{length, drop, getD, set, length-append, drop-of-length-le}
 use lib.Seq.{sets, sets-eq, length-sets, drop-cons}
-use Rattle.number_bytes.specs.Bytes.{lowBytes, eightBytes, inBytes, storedIn}
+use Rattle.number_bytes.specs.Bytes.{lowBytes, eightBytes, inBytes}
+use Rattle.number_bytes.specs.Stored.{storedIn}
 
 pub length-eight : (n : ℕ) → length (eightBytes n) ≡ 8
 unfolding eightBytes lowBytes

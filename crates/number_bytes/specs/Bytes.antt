@@ -1,10 +1,7 @@
--- Numbers as bytes.
+-- Document 01, "What each operation gives": numbers as bytes, for a host.
 -- Assumes nothing.
 use mathlib.Core.List.{List, [], _∷_, _++_}
-use Prim.Native.Nat.{ℕ, zero, suc, _*_, _/_, _%_}
-use lib.Dec.{ltb}
-use lib.ListN.{length, drop}
-use Rattle.common.specs.Choice.{pick}
+use Prim.Native.Nat.{ℕ, zero, suc, _/_, _%_}
 
 -- the k lowest bytes of n, low byte first
 unfoldable pub lowBytes : ℕ → ℕ → List ℕ
@@ -19,7 +16,3 @@ eightBytes n = lowBytes 8 n
 unfoldable pub inBytes : List ℕ → List ℕ
 inBytes [] = []
 inBytes (n ∷ ns) = eightBytes n ++ inBytes ns
-
--- 8-byte numbers at the front of a buffer; where they have not room, it stays as it is
-unfoldable pub storedIn : (numbers buffer : List ℕ) → List ℕ
-storedIn ns buffer = pick (ltb (length buffer) (8 * length ns)) buffer (inBytes ns ++ drop (8 * length ns) buffer)

@@ -3,7 +3,8 @@ ghost use mathlib.Core.Path.{_≡_};
 ghost use Prim.Native.Nat.{_+_, _%_, _≤_};
 ghost use lib.ListN.{length};
 ghost use lib.Seq.{sets};
-ghost use Rattle.number_bytes.specs.Bytes.{eightBytes, storedIn};
+ghost use Rattle.number_bytes.specs.Bytes.{eightBytes};
+ghost use Rattle.number_bytes.specs.Stored.{storedIn};
 
 // The lowest byte of n.
 fn low_byte(n: u64) -> u8

@@ -27,7 +27,7 @@ pub struct Quoted {
 }
 
 // The last number of a register that is full.
-pub const FULL: u32 = 999999;
+pub const LAST_NUMBER: u32 = 999999;
 
 fn refused_quote(n: u32, register: Register) -> Quoted
     ensures { λ r. ⌜ r ≡ record { answer = QuoteAnswer.Refused n; register = register } ⌝ }
@@ -48,7 +48,7 @@ pub fn quote(t: Terms, existing: PensionPence, register: Register) -> Quoted
     if refusal != 0 {
         return refused_quote(refusal, register);
     }
-    if FULL <= register.last {
+    if LAST_NUMBER <= register.last {
         return refused_quote(9, register);
     }
     let contribution = election::cost(t, rates);

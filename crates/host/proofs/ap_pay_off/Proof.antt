@@ -2,7 +2,7 @@
 -- Assumes nothing.
 use native.Mathlib.Omega.{arith}
 use borrow.Author.Needs.{needs}
-use Rattle.host.proofs.Calls.{pay-off-short, pay-off-value-most, pay-off-told}
+use Rattle.host.proofs.Calls.{pay-off-short, pay-off-value-most, pay-off-stored}
 use Rattle.host.proofs.ap_pay_off.Statement.{statement}
 use Rattle.host.proofs.ap_pay_off.Tie as tie
 
@@ -37,7 +37,7 @@ same-length c = search needs
 returns-2 : tie.Need-returns-2
 returns-2 c =
     let d = c .before .before .before .before .before in
-    pay-off-told _ _ _ _ _ (d .before .before .if1 .left) (d .before .pay-off .ensures .0) (d .pay-off-numbers .ensures)
+    pay-off-stored _ _ _ _ _ (d .before .before .if1 .left) (d .before .pay-off .ensures .0) (d .pay-off-numbers .ensures)
     (c .before .before .put-all .ensures)
 
 pub ap-pay-off-spec : {M : Type 1} → statement M

@@ -2,7 +2,7 @@
 -- Assumes nothing.
 use native.Mathlib.Omega.{arith}
 use borrow.Author.Needs.{needs}
-use Rattle.host.proofs.Calls.{quote-short, quote-value-most, quote-told}
+use Rattle.host.proofs.Calls.{quote-short, quote-value-most, quote-stored}
 use Rattle.host.proofs.ap_quote.Statement.{statement}
 use Rattle.host.proofs.ap_quote.Tie as tie
 
@@ -37,7 +37,7 @@ same-length c = search needs
 returns-2 : tie.Need-returns-2
 returns-2 c =
     let d = c .before .before .before .before .before in
-    quote-told _ _ _ _ (d .before .before .if1 .left) (d .before .quote .ensures .0) (d .quote-numbers .ensures) (c .before .before .put-all .ensures)
+    quote-stored _ _ _ _ (d .before .before .if1 .left) (d .before .quote .ensures .0) (d .quote-numbers .ensures) (c .before .before .put-all .ensures)
 
 pub ap-quote-spec : {M : Type 1} → statement M
 ap-quote-spec =

@@ -2,7 +2,7 @@
 -- Assumes nothing.
 use native.Mathlib.Omega.{arith}
 use borrow.Author.Needs.{needs}
-use Rattle.host.proofs.Calls.{reduction-short, reduction-value-most, reduction-told}
+use Rattle.host.proofs.Calls.{reduction-short, reduction-value-most, reduction-stored}
 use Rattle.host.proofs.ap_reduction_limit.Statement.{statement}
 use Rattle.host.proofs.ap_reduction_limit.Tie as tie
 
@@ -37,7 +37,7 @@ same-length c = search needs
 returns-2 : tie.Need-returns-2
 returns-2 c =
     let d = c .before .before .before .before .before in
-    reduction-told _ _ (omega (arith, d .before .before .if1 .left)) (d .before .reduction-limit .ensures .0) (d .reduction-numbers .ensures)
+    reduction-stored _ _ (omega (arith, d .before .before .if1 .left)) (d .before .reduction-limit .ensures .0) (d .reduction-numbers .ensures)
     (c .before .before .put-all .ensures)
 
 pub ap-reduction-limit-spec : {M : Type 1} → statement M

@@ -3,7 +3,7 @@
 use mathlib.Core.Path.{_∙_}
 use native.Mathlib.Omega.{arith}
 use borrow.Author.Needs.{needs}
-use Rattle.host.proofs.Calls.{settle-short, settle-value-most, settle-told}
+use Rattle.host.proofs.Calls.{settle-short, settle-value-most, settle-stored}
 use Rattle.host.proofs.ap_settle.Statement.{statement}
 use Rattle.host.proofs.ap_settle.Tie as tie
 
@@ -13,8 +13,8 @@ returns c = settle-short _ _ _ (c .if1 .taken)
 settle-requires : tie.Need-settle-requires
 settle-requires c κs = search needs
 
-numbers-of-requires : tie.Need-numbers-of-requires
-numbers-of-requires c κs = search needs
+six-numbers-of-requires : tie.Need-six-numbers-of-requires
+six-numbers-of-requires c κs = search needs
 
 slice-aggregate-put-all : tie.Need-slice-aggregate-put-all
 slice-aggregate-put-all c = search needs
@@ -26,7 +26,7 @@ put-all-requires c κs = search needs
 cast-result : tie.Need-cast-result
 cast-result c =
     let d = c .before .before .before .before .before .before in
-    let most = settle-value-most _ _ (d .numbers-of .ensures ∙ d .before .settle .ensures .0) in
+    let most = settle-value-most _ _ (d .six-numbers-of .ensures ∙ d .before .settle .ensures .0) in
     omega (arith, most)
 
 same-length : tie.Need-same-length
@@ -35,7 +35,7 @@ same-length c = search needs
 returns-2 : tie.Need-returns-2
 returns-2 c =
     let d = c .before .before .before .before .before .before in
-    settle-told _ _ _ (d .before .before .if1 .left) (d .numbers-of .ensures ∙ d .before .settle .ensures .0)
+    settle-stored _ _ _ (d .before .before .if1 .left) (d .six-numbers-of .ensures ∙ d .before .settle .ensures .0)
     (c .before .before .before .put-all .ensures)
 
 pub ap-settle-spec : {M : Type 1} → statement M
@@ -44,7 +44,7 @@ ap-settle-spec =
     (tie.spec
     returns
     settle-requires
-    numbers-of-requires
+    six-numbers-of-requires
     slice-aggregate-put-all
     put-all-requires
     cast-result

@@ -12,7 +12,7 @@ use Rattle.election.specs.Price.{contributionOf}
 use Rattle.money.specs.declared.ContributionPence.{ContributionPence}
 use Rattle.terms.specs.Rules.{refusalOf}
 use Rattle.terms.specs.declared.Terms.{Terms}
-use Rattle.quotes.specs.Quote.{QuoteNumbers, quoteRefusal, quoteOf, numbersOfQuote, quoteIsRefused}
+use Rattle.quotes.specs.Quote.{lastNumber, QuoteNumbers, quoteRefusal, quoteOf, numbersOfQuote, quoteIsRefused}
 use Rattle.quotes.specs.declared.QuoteAnswer.the-variants.{Refused}
 use Rattle.quotes.specs.declared.Quoted.{Quoted}
 use Rattle.quotes.specs.declared.Register.{Register}
@@ -24,11 +24,11 @@ module _ (t : Terms) (existing last : ℕ) where
   unfolding quoteRefusal
   by-terms h = rw (ne-eqb _ _ h)
 
-  full : refusalOf t existing ≡ 0 → 999999 ≤ last → quoteRefusal t existing last ≡ 9
+  register-full : refusalOf t existing ≡ 0 → lastNumber ≤ last → quoteRefusal t existing last ≡ 9
   unfolding quoteRefusal
-  full z h = rw (eq-eqb _ _ z, le-leb _ _ h)
+  register-full z h = rw (eq-eqb _ _ z, le-leb _ _ h)
 
-  open-register : refusalOf t existing ≡ 0 → last < 999999 → quoteRefusal t existing last ≡ 0
+  open-register : refusalOf t existing ≡ 0 → last < lastNumber → quoteRefusal t existing last ≡ 0
   unfolding quoteRefusal
   open-register z h = rw (eq-eqb _ _ z, lt-leb _ _ h)
 
@@ -74,7 +74,7 @@ returns-2 : tie.Need-returns-2
 returns-2 c =
     let b = c .before .before .before in
     let pass = sym (b .before .first-refusal .ensures) ∙ b .if1 .left in
-    let is = ap numbersOfQuote (c .refused-quote2 .ensures) ∙ refused _ _ _ _ (sym (full _ _ _ pass (c .before .if2 .taken))) (λ z. omega arith) in
+    let is = ap numbersOfQuote (c .refused-quote2 .ensures) ∙ refused _ _ _ _ (sym (register-full _ _ _ pass (c .before .if2 .taken))) (λ z. omega arith) in
     (is, refuses _ _ (c .refused-quote2 .ensures) (λ z. omega arith) ∙ ap some-refusal is)
 
 cost-requires : tie.Need-cost-requires

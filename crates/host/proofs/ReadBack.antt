@@ -20,7 +20,7 @@ use Rattle.reduction.specs.Bounds.{ReductionBounds}
 use Rattle.reduction.proofs.Bounds.{reduction-bounds}
 use Rattle.number_bytes.specs.Bytes.{lowBytes, eightBytes, inBytes}
 use Rattle.host.specs.Calls.{quoteBytes, settleBytes, payOffBytes, reductionBytes, hostQuoteOf, hostSettleOf, hostPayOffOf, hostReductionLimitOf}
-use Rattle.host.specs.Reading.{numberOf, numberAt, QuoteRead, SettleRead, PayOffRead, ReductionRead}
+use Rattle.host.specs.ReadBack.{numberOf, numberAt, QuoteRead, SettleRead, PayOffRead, ReductionRead}
 use Rattle.host.proofs.Calls.{quote-enough, settle-enough, pay-off-enough, reduction-enough}
 use Rattle.host.proofs.QuoteBounds.{QuoteBounds, quote-bounds}
 
