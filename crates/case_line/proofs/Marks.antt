@@ -11,13 +11,13 @@ use lib.Dec.{T, ltb}
 use lib.ListN.{length, take, drop, getD, set, length-set, drop-of-length-le}
 use lib.Seq.{drop-cons, take-suc-set, append-snoc}
 use Rattle.case_line.specs.Shape.{allDigits, marksIn}
-use Rattle.case_line.specs.Told.{MarksTold}
-use Rattle.case_line.proofs.Range.{outside}
+use Rattle.case_line.specs.Steps.{DigitsRead}
+use Rattle.case_line.proofs.Range.{either-wrong}
 
 module _ (l : List ℕ) (i : ℕ) where
   pub no-digit : i < length l → ltb (getD l i 0) 48 || ltb 57 (getD l i 0) ≡ true → allDigits (drop i l) ≡ false
   unfolding allDigits
-  no-digit h e = rw (drop-cons l i 0) (outside (ltb (getD l i 0) 48) (ltb 57 (getD l i 0)) false _ e)
+  no-digit h e = rw (drop-cons l i 0) (either-wrong (ltb (getD l i 0) 48) (ltb 57 (getD l i 0)) false _ e)
 
   mark-digit : i < length l → 48 ≤ getD l i 0 → getD l i 0 ≤ 57 → allDigits (drop i l) ≡ allDigits (drop (i + 1) l)
   unfolding allDigits
@@ -28,14 +28,14 @@ module _ (l : List ℕ) (i : ℕ) where
   mark-number h = rw (drop-cons l i 0, add-one)
 
 -- the loop's state: i digits are passed
-pub record MarksRead (l old marks : List ℕ) (i : ℕ) : Type 0 where
+pub record DigitsPassed (l old marks : List ℕ) (i : ℕ) : Type 0 where
   pub within : i ≤ length l
   pub long : length marks ≡ length old
   pub digits : allDigits l ≡ allDigits (drop i l)
   pub numbers : marksIn l ≡ take i marks ++ marksIn (drop i l)
 
-pub mark-more : (l old ms : List ℕ) (i : ℕ) → MarksRead l old ms i → i < length l → length l ≤ length old
-    → 48 ≤ getD l i 0 → getD l i 0 ≤ 57 → MarksRead l old (set ms i (getD l i 0 - 48)) (i + 1)
+pub mark-more : (l old ms : List ℕ) (i : ℕ) → DigitsPassed l old ms i → i < length l → length l ≤ length old
+    → 48 ≤ getD l i 0 → getD l i 0 ≤ 57 → DigitsPassed l old (set ms i (getD l i 0 - 48)) (i + 1)
 mark-more l old ms i s h room low high =
     let v = getD l i 0 - 48 in
     let rest = marksIn (drop (i + 1) l) in
@@ -49,14 +49,14 @@ mark-more l old ms i s h room low high =
           ∙ ap (λ (r : List ℕ). r ++ rest) (sym more);
     }
 
-pub not-all-digits : (l ms : List ℕ) → allDigits l ≡ false → MarksTold l ms false
-not-all-digits l ms e = record { told = sym e; are = λ t. absurd (subst (λ (b : Bool). T (not b)) t tt) }
+pub not-all-digits : (l ms : List ℕ) → allDigits l ≡ false → DigitsRead l ms false
+not-all-digits l ms e = record { whether = sym e; are = λ t. absurd (subst (λ (b : Bool). T (not b)) t tt) }
 
-pub marks-end : (l old ms : List ℕ) (i : ℕ) → MarksRead l old ms i → length l ≤ i → MarksTold l ms true
+pub marks-end : (l old ms : List ℕ) (i : ℕ) → DigitsPassed l old ms i → length l ≤ i → DigitsRead l ms true
 unfolding allDigits marksIn
 marks-end l old ms i s h =
     let all : length l ≡ i = omega (arith, s .within) in
     record {
-      told = sym (s .digits ∙ rw (drop-of-length-le l h));
+      whether = sym (s .digits ∙ rw (drop-of-length-le l h));
       are = λ _. sym (s .numbers ∙ rw (drop-of-length-le l h) (append-nil (take i ms)) ∙ ap (λ (n : ℕ). take n ms) (sym all));
     }

@@ -12,7 +12,7 @@ use Rattle.case_line.specs.declared.Said.{Said}
 use Rattle.case_line.specs.declared.Fields.{Fields}
 use Rattle.case_line.specs.declared.Fields.the-variants.{Whole, WrongShape}
 use Rattle.case_line.specs.Shape.{columns, onNumber, fieldsOf}
-use Rattle.case_line.specs.Told.{saidBy}
+use Rattle.case_line.specs.Steps.{saidBy}
 
 module _ (election age years months option payer term amount : Said) where
   abbrev allRight : Bool

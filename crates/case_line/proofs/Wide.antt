@@ -11,20 +11,12 @@ use Rattle.text.specs.Field.{fieldOf}
 use Rattle.text.specs.Column.{columnOf}
 use Rattle.text.proofs.ReadBack.{column-read, field-below}
 use Rattle.terms.specs.declared.Terms.{Terms}
-use Rattle.settlement.specs.Settle.{SettleNumbers, settleOf}
+use Rattle.settlement.specs.Settle.{settleOf}
 use Rattle.settlement.proofs.Bounds.{settle-bounds}
 use Rattle.case_line.specs.Shape.{columns}
+use Rattle.case_line.specs.Line.{ListedReadBack}
 
--- the fields after the election number
-pub record ReadBack (n : SettleNumbers) : Type 0 where
-  pub refusal : fieldOf (columnOf 3 (n .refusal)) ≡ Number (n .refusal)
-  pub place : fieldOf (columnOf 4 (n .place)) ≡ Number (n .place)
-  pub status : fieldOf (columnOf 2 (n .status)) ≡ Number (n .status)
-  pub contribution : fieldOf (columnOf 10 (n .contribution)) ≡ Number (n .contribution)
-  pub credit : fieldOf (columnOf 10 (n .credit)) ≡ Number (n .credit)
-  pub refund : fieldOf (columnOf 10 (n .refund)) ≡ Number (n .refund)
-
-pub settled-reads-back : (t : Terms) (marks : List ℕ) → ReadBack (settleOf t marks)
+pub settled-reads-back : (t : Terms) (marks : List ℕ) → ListedReadBack (settleOf t marks)
 settled-reads-back t marks =
     let b = settle-bounds t marks in
     record {

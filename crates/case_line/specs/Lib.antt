@@ -1,3 +1,3 @@
 pub mod Shape
 pub mod Line
-pub mod Told
+pub mod Steps

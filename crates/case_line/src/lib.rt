@@ -3,12 +3,12 @@ ghost use mathlib.Core.Path.{_≡_};
 ghost use Prim.Native.Nat.{_-_, _≤_};
 ghost use lib.ListN.{length, take, drop};
 ghost use Rattle.text.specs.Field.{fieldOf};
-ghost use Rattle.numbers.specs.Numbers.{numbersIn};
+ghost use Rattle.settlement.specs.Six.{asSettleNumbers};
 ghost use Rattle.case_line.specs.declared.Fields.the-variants.{Whole};
 ghost use Rattle.case_line.specs.Shape.{fieldsOf};
-ghost use Rattle.case_line.specs.Line.{listedAs, wrongShape, settledLine, lineOf};
-ghost use Rattle.case_line.specs.Told.{saidBy, MarksTold};
-use numbers::Numbers;
+ghost use Rattle.case_line.specs.Line.{fieldsBytes, listedAs, wrongShape, settledLine, lineOf};
+ghost use Rattle.case_line.specs.Steps.{saidBy, DigitsRead};
+use settlement::SixNumbers;
 use terms::Terms;
 use text::Field;
 
@@ -31,10 +31,16 @@ struct Said {
 }
 
 // The bytes before the marks.
-const FIELDS: usize = 29;
+const FIELDS_BYTES: usize = 29;
 
 // The most bytes that a line has.
-const LONGEST: usize = 285;
+const LONGEST_LINE: usize = 285;
+
+// The most of them that are marks.
+const MOST_DIGITS: usize = 256;
+
+// The bytes of a line of the listing, its end included.
+pub const LISTED_BYTES: usize = 46;
 
 // What the bytes from one index up to another say.
 fn said_in(line: &[u8], from: usize, to: usize) -> Said
@@ -55,7 +61,7 @@ fn said_in(line: &[u8], from: usize, to: usize) -> Said
 
 // The eight fields, each in its own bytes.
 fn read_fields(line: &[u8]) -> Fields
-    requires { ⌜ 29 ≤ length (now line) ⌝ }
+    requires { ⌜ fieldsBytes ≤ length (now line) ⌝ }
     ensures { λ r. ⌜ r ≡ fieldsOf (now (line .entry)) ⌝ }
 {
     let election = said_in(line, 0, 6);
@@ -93,9 +99,9 @@ fn read_fields(line: &[u8]) -> Fields
 }
 
 // The numbers of the digits, put into marks, and whether all are digits.
-fn read_marks(digits: &[u8], marks: &mut [u8]) -> bool
+fn read_digits(digits: &[u8], marks: &mut [u8]) -> bool
     requires { ⌜ length (now digits) ≤ length (now marks) ⌝ }
-    ensures { λ r. ⌜ MarksTold (now (digits .entry)) (now (marks .exit)) r ⌝ }
+    ensures { λ r. ⌜ DigitsRead (now (digits .entry)) (now (marks .exit)) r ⌝ }
 {
     let mut i = 0;
     while i < digits.len() {
@@ -110,10 +116,10 @@ fn read_marks(digits: &[u8], marks: &mut [u8]) -> bool
 }
 
 // A line of the listing: the election and the six numbers, each at the right of its field, and the line end.
-fn listed(election: u32, n: Numbers) -> [u8; 46]
-    ensures { λ r. ⌜ r ≡ listedAs election (numbersIn n) ⌝ }
+fn listed(election: u32, n: SixNumbers) -> [u8; LISTED_BYTES]
+    ensures { λ r. ⌜ r ≡ listedAs election (asSettleNumbers n) ⌝ }
 {
-    let mut row = [b' '; 46];
+    let mut row = [b' '; LISTED_BYTES];
     text::put_number(&mut row, 0, 6, election as u64);
     text::put_number(&mut row, 6, 3, n.refusal);
     text::put_number(&mut row, 9, 4, n.place);
@@ -126,12 +132,12 @@ fn listed(election: u32, n: Numbers) -> [u8; 46]
 }
 
 // The listing's line for a wrong shape: refusal 15, all else 0.
-fn wrong_shape() -> [u8; 46]
+fn wrong_shape() -> [u8; LISTED_BYTES]
     ensures { λ r. ⌜ r ≡ wrongShape ⌝ }
 {
     listed(
         0,
-        Numbers {
+        SixNumbers {
             refusal: 15,
             place: 0,
             contribution: 0,
@@ -143,30 +149,30 @@ fn wrong_shape() -> [u8; 46]
 }
 
 // The listing's line for fields and the mark digits behind them.
-fn settle_case(case: Case, digits: &[u8]) -> [u8; 46]
+fn settle_case(case: Case, digits: &[u8]) -> [u8; LISTED_BYTES]
     requires { ⌜ length (now digits) ≤ 256 ⌝ }
     ensures { λ r. ⌜ r ≡ settledLine (Whole case) (now (digits .entry)) ⌝ }
 {
-    let mut marks = [0u8; 256];
-    let right = read_marks(digits, &mut marks);
+    let mut marks = [0u8; MOST_DIGITS];
+    let right = read_digits(digits, &mut marks);
     if right {
         let count = digits.len();
         let election = case.election;
         let answer = settlement::settle(case.terms, &marks[..count]);
-        return listed(election, numbers::numbers_of(answer));
+        return listed(election, settlement::six_numbers_of(answer));
     }
     wrong_shape()
 }
 
 // The listing's line for a line of the file, whatever its bytes are.
-pub fn settle_line(line: &[u8]) -> [u8; 46]
+pub fn settle_line(line: &[u8]) -> [u8; LISTED_BYTES]
     ensures { λ r. ⌜ r ≡ lineOf (now (line .entry)) ⌝ }
 {
-    if (line.len() < FIELDS) | (LONGEST < line.len()) {
+    if (line.len() < FIELDS_BYTES) | (LONGEST_LINE < line.len()) {
         return wrong_shape();
     }
     match read_fields(line) {
-        Fields::Whole(case) => settle_case(case, &line[FIELDS..]),
+        Fields::Whole(case) => settle_case(case, &line[FIELDS_BYTES..]),
         Fields::WrongShape => wrong_shape(),
     }
 }

@@ -1,4 +1,4 @@
--- What is open and what is written after two parts of a file, and after all of it; 286 bytes of an open line stand for all of them.
+-- What is open and what is written after two parts of a file, and after all of it; the bytes of an open line that are kept stand for all of them.
 -- Assumes nothing.
 use mathlib.Core.List.{List, [], _∷_, _++_, append-assoc}
 use mathlib.Core.Path.{_≡_, refl, sym, ap, _∙_}
@@ -9,10 +9,14 @@ use lib.Dec.{ltb, eqb}
 use lib.ListN.{length, take}
 use lib.Seq.{take-all, take-take, length-take-le}
 use Rattle.common.proofs.Tests.{by-test}
-use Rattle.case_line.specs.Line.{lineOf}
+use Rattle.case_line.specs.Line.{longestLine, lineOf}
 use Rattle.casefile.specs.File.{lastLine, linesAfter, listLines}
-use Rattle.casefile.specs.Stream.{openAfter, writtenBy, writtenAtEnd}
-use Rattle.case_line.proofs.Shapes.{long}
+use Rattle.casefile.specs.Stream.{keptBytes, openAfter, writtenBy}
+use Rattle.case_line.proofs.Shapes.{too-long}
+
+-- the line of the listing for the line that the end of the file ends, if one is open
+unfoldable pub writtenAtEnd : List ℕ → List ℕ
+writtenAtEnd p = listLines (lastLine p)
 
 pub open-append : (p a b : List ℕ) → openAfter p (a ++ b) ≡ openAfter (openAfter p a) b
 unfolding openAfter
@@ -40,32 +44,32 @@ listing-from p (b ∷ bs) =
     ∙ sym (append-assoc (lineOf p) (writtenBy [] bs) (writtenAtEnd (openAfter [] bs)))))
     (λ e. rw e (listing-from (p ++ (b ∷ [])) bs))
 
--- 286 bytes of a line tell as much as all of it
-pub line-kept : (p : List ℕ) → lineOf (take 286 p) ≡ lineOf p
+-- the bytes of a line that are kept tell as much as all of it
+pub line-kept : (p : List ℕ) → lineOf (take keptBytes p) ≡ lineOf p
 line-kept p =
-    by-test (ltb 285 (length p))
+    by-test (ltb longestLine (length p))
     (λ e.
-    let h : 285 < length p = ltb-true _ _ e in
-    let l : length (take 286 p) ≡ 286 = length-take-le 286 p (omega arith) in
-    long (take 286 p) (omega arith) (omega arith) ∙ sym (long p (omega arith) h))
+    let h : longestLine < length p = ltb-true _ _ e in
+    let l : length (take keptBytes p) ≡ keptBytes = length-take-le keptBytes p (omega arith) in
+    too-long (take keptBytes p) (omega arith) (omega arith) ∙ sym (too-long p (omega arith) h))
     (λ e.
-    let h : length p ≤ 285 = ltb-false _ _ e in
-    ap lineOf (take-all 286 p (omega arith)))
+    let h : length p ≤ longestLine = ltb-false _ _ e in
+    ap lineOf (take-all keptBytes p (omega arith)))
 
 pub kept-more : (n : ℕ) (p s : List ℕ) → take n (p ++ s) ≡ take n (take n p ++ s)
 kept-more zero p s = refl
 kept-more (suc n) [] s = refl
 kept-more (suc n) (x ∷ p) s = ap (λ (r : List ℕ). x ∷ r) (kept-more n p s)
 
--- two open lines that agree in their first 286 bytes
+-- two open lines that agree in the bytes that are kept
 abbrev Same : List ℕ → List ℕ → Type 0
-Same p q = take 286 p ≡ take 286 q
+Same p q = take keptBytes p ≡ take keptBytes q
 
 same-line : (p q : List ℕ) → Same p q → lineOf p ≡ lineOf q
 same-line p q e = sym (line-kept p) ∙ ap lineOf e ∙ line-kept q
 
 same-more : (p q s : List ℕ) → Same p q → Same (p ++ s) (q ++ s)
-same-more p q s e = kept-more 286 p s ∙ ap (λ (r : List ℕ). take 286 (r ++ s)) e ∙ sym (kept-more 286 q s)
+same-more p q s e = kept-more keptBytes p s ∙ ap (λ (r : List ℕ). take keptBytes (r ++ s)) e ∙ sym (kept-more keptBytes q s)
 
 same-written : (bs p q : List ℕ) → Same p q → writtenBy p bs ≡ writtenBy q bs
 unfolding writtenBy
@@ -89,17 +93,17 @@ same-end (x ∷ p) [] e = absurd (omega (arith, ap length e))
 same-end (x ∷ p) (y ∷ q) e = ap (λ (r : List ℕ). r ++ []) (same-line (x ∷ p) (y ∷ q) e)
 
 module _ (p : List ℕ) (bs : List ℕ) where
-  same-kept : Same (take 286 p) p
-  same-kept = take-take 286 286 p (omega arith)
+  same-kept : Same (take keptBytes p) p
+  same-kept = take-take keptBytes keptBytes p (omega arith)
 
-  pub written-kept : writtenBy (take 286 p) bs ≡ writtenBy p bs
-  written-kept = same-written bs (take 286 p) p same-kept
+  pub written-kept : writtenBy (take keptBytes p) bs ≡ writtenBy p bs
+  written-kept = same-written bs (take keptBytes p) p same-kept
 
-  pub end-kept : writtenAtEnd (openAfter (take 286 p) bs) ≡ writtenAtEnd (openAfter p bs)
-  end-kept = same-end (openAfter (take 286 p) bs) (openAfter p bs) (same-open bs (take 286 p) p same-kept)
+  pub end-kept : writtenAtEnd (openAfter (take keptBytes p) bs) ≡ writtenAtEnd (openAfter p bs)
+  end-kept = same-end (openAfter (take keptBytes p) bs) (openAfter p bs) (same-open bs (take keptBytes p) p same-kept)
 
 -- what is kept after two parts is told by what is kept after the first
-pub open-kept : (p a b : List ℕ) → take 286 (openAfter (take 286 (openAfter p a)) b) ≡ take 286 (openAfter p (a ++ b))
+pub open-kept : (p a b : List ℕ) → take keptBytes (openAfter (take keptBytes (openAfter p a)) b) ≡ take keptBytes (openAfter p (a ++ b))
 open-kept p a b =
     let q = openAfter p a in
-    same-open b (take 286 q) q (same-kept q b) ∙ ap (take 286) (sym (open-append p a b))
+    same-open b (take keptBytes q) q (same-kept q b) ∙ ap (take keptBytes) (sym (open-append p a b))

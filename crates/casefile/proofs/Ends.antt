@@ -12,7 +12,7 @@ use Rattle.case_line.specs.Line.{lineOf}
 use Rattle.common.proofs.Tests.{by-test}
 use Rattle.bytes.specs.Bytes.{slice, indexAfter, indexOf}
 use Rattle.casefile.specs.Stream.{openAfter, writtenBy, takenWith}
-use Rattle.casefile.specs.Told.{NoEnd, none, more, EndFound}
+use Rattle.casefile.specs.Steps.{NoEnd, none, more, EndFound}
 use Rattle.casefile.proofs.Chunks.{open-append, written-append}
 
 -- no line end stands before the index found

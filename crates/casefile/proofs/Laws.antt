@@ -8,14 +8,15 @@ use lib.Dec.{eqb}
 use lib.ListN.{length, take, drop, length-append, length-take}
 use lib.Seq.{take-at, take-all}
 use Rattle.common.proofs.Choice.{either}
+use Rattle.case_line.specs.Line.{listedBytes}
 use Rattle.casefile.specs.declared.OpenLine.{OpenLine}
 use Rattle.casefile.specs.declared.ChunkSettled.{ChunkSettled}
 use Rattle.casefile.specs.declared.EndSettled.{EndSettled}
 use Rattle.casefile.specs.File.{listingOf}
-use Rattle.casefile.specs.Stream.{openAfter, writtenBy, writtenAtEnd, takenWith, bytesOf}
-use Rattle.casefile.specs.Stream.{ChunkNumbers, numbersOf, takenOf, chunkOf, endOf, Calls, at-end, on-chunk}
+use Rattle.casefile.specs.Stream.{keptBytes, openAfter, writtenBy, takenWith, bytesOf}
+use Rattle.casefile.specs.Stream.{ChunkNumbers, numbersOfChunk, takenOf, chunkOf, endOf, Calls, at-end, on-chunk}
 use Rattle.casefile.proofs.Last.{end-within, end-writes}
-use Rattle.casefile.proofs.Chunks.{open-append, written-append, listing-from, written-kept, end-kept, open-kept}
+use Rattle.casefile.proofs.Chunks.{writtenAtEnd, open-append, written-append, listing-from, written-kept, end-kept, open-kept}
 
 taken-within : (n : ℕ) (l : List ℕ) → takenWith n l ≤ length l
 unfolding takenWith
@@ -30,27 +31,27 @@ taken-some zero l p q = absurd (omega arith)
 taken-some (suc n) [] p q = absurd (omega arith)
 taken-some (suc n) (b ∷ l) p q = omega arith
 
-module _ (o : OpenLine) (chunk out out′ : List ℕ) (r : ChunkSettled) (is : numbersOf r out′ ≡ chunkOf (bytesOf o) chunk out) where
-  taken-is : r .taken ≡ takenWith (length out / 46) chunk
+module _ (o : OpenLine) (chunk out out′ : List ℕ) (r : ChunkSettled) (is : numbersOfChunk r out′ ≡ chunkOf (bytesOf o) chunk out) where
+  taken-is : r .taken ≡ takenWith (length out / listedBytes) chunk
   unfolding chunkOf
   taken-is = ap (λ (n : ChunkNumbers). n .taken) is
 
-  by-taken : numbersOf r out′ ≡ takenOf (bytesOf o) chunk out (r .taken)
+  by-taken : numbersOfChunk r out′ ≡ takenOf (bytesOf o) chunk out (r .taken)
   unfolding chunkOf
   by-taken = is ∙ ap (takenOf (bytesOf o) chunk out) (sym taken-is)
 
   wrote-is : r .wrote ≡ length (writtenBy (bytesOf o) (take (r .taken) chunk))
   wrote-is = ap (λ (n : ChunkNumbers). n .wrote) by-taken
 
-  kept-is : bytesOf (r .after) ≡ take 286 (openAfter (bytesOf o) (take (r .taken) chunk))
+  kept-is : bytesOf (r .after) ≡ take keptBytes (openAfter (bytesOf o) (take (r .taken) chunk))
   kept-is = ap (λ (n : ChunkNumbers). n .kept) by-taken
 
   -- no more is taken than there is, and something where a line fits
   pub chunk-taken : r .taken ≤ length chunk
-  chunk-taken = omega (arith, taken-is, taken-within (length out / 46) chunk)
+  chunk-taken = omega (arith, taken-is, taken-within (length out / listedBytes) chunk)
 
-  pub chunk-moves : 46 ≤ length out → 0 < length chunk → 0 < r .taken
-  chunk-moves h k = omega (arith, taken-is, taken-some (length out / 46) chunk (omega arith) k)
+  pub chunk-moves : listedBytes ≤ length out → 0 < length chunk → 0 < r .taken
+  chunk-moves h k = omega (arith, taken-is, taken-some (length out / listedBytes) chunk (omega arith) k)
 
   pub chunk-wrote : r .wrote ≤ length out′
   chunk-wrote =
@@ -58,10 +59,10 @@ module _ (o : OpenLine) (chunk out out′ : List ℕ) (r : ChunkSettled) (is : n
       omega (arith, wrote-is, ap (λ (n : ChunkNumbers). length (n .out)) by-taken ∙ length-append w (drop (length w) out))
 
   -- what is open after the part that was taken, where `first` came before it and p was open before that
-  pub chunk-keeps : (p first : List ℕ) → bytesOf o ≡ take 286 (openAfter p first)
-      → bytesOf (r .after) ≡ take 286 (openAfter p (first ++ take (r .taken) chunk))
+  pub chunk-keeps : (p first : List ℕ) → bytesOf o ≡ take keptBytes (openAfter p first)
+      → bytesOf (r .after) ≡ take keptBytes (openAfter p (first ++ take (r .taken) chunk))
   chunk-keeps p first e =
-      kept-is ∙ ap (λ (q : List ℕ). take 286 (openAfter q (take (r .taken) chunk))) e ∙ open-kept p first (take (r .taken) chunk)
+      kept-is ∙ ap (λ (q : List ℕ). take keptBytes (openAfter q (take (r .taken) chunk))) e ∙ open-kept p first (take (r .taken) chunk)
 
   written-is : take (r .wrote) out′ ≡ writtenBy (bytesOf o) (take (r .taken) chunk)
   written-is =
@@ -69,12 +70,12 @@ module _ (o : OpenLine) (chunk out out′ : List ℕ) (r : ChunkSettled) (is : n
       ap (λ (n : ChunkNumbers). take (r .wrote) (n .out)) by-taken ∙ take-at w (drop (length w) out) (r .wrote) (sym wrote-is)
 
 -- at the start all of an open line is kept
-pub all-kept : (o : OpenLine) → length (o .bytes) ≡ 286 → bytesOf o ≡ take 286 (openAfter (bytesOf o) [])
+pub all-kept : (o : OpenLine) → length (o .bytes) ≡ keptBytes → bytesOf o ≡ take keptBytes (openAfter (bytesOf o) [])
 unfolding openAfter
-all-kept o long = sym (take-all 286 (bytesOf o) (omega (arith, length-take (o .len) (o .bytes))))
+all-kept o long = sym (take-all keptBytes (bytesOf o) (omega (arith, length-take (o .len) (o .bytes))))
 
 -- the end writes no more than it has
-pub end-wrote : (o : OpenLine) {r : EndSettled} → r ≡ endOf (bytesOf o) → r .wrote ≤ 46
+pub end-wrote : (o : OpenLine) {r : EndSettled} → r ≡ endOf (bytesOf o) → r .wrote ≤ listedBytes
 end-wrote o e = rw e (end-within (bytesOf o))
 
 calls-write : {o : OpenLine} {file written : List ℕ} → Calls o file written

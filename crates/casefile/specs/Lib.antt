@@ -1,3 +1,3 @@
 pub mod File
 pub mod Stream
-pub mod Told
+pub mod Steps

@@ -3,17 +3,17 @@ ghost use mathlib.Core.List.{[], _++_};
 ghost use mathlib.Core.Path.{_≡_};
 ghost use Prim.Native.Nat.{_+_, _≤_, min};
 ghost use lib.ListN.{length, take};
-ghost use lib.Seq.{paste};
-ghost use Rattle.case_line.specs.Line.{lineOf};
-ghost use Rattle.casefile.specs.Stream.{bytesOf, numbersOf, chunkOf, endOf};
-ghost use Rattle.casefile.specs.Told.{Kept, PartTold};
+ghost use Rattle.case_line.specs.Line.{listedBytes, lineOf};
+ghost use Rattle.casefile.specs.Stream.{keptBytes, bytesOf, numbersOfChunk, chunkOf, endOf};
+ghost use Rattle.casefile.specs.Steps.{PartKept, PartSettled};
 use bytes::scan::find;
+use case_line::LISTED_BYTES;
 use case_line::settle_line;
 
-// The bytes since the last line end, the first len of the array. 286 stand for any more. What stands behind them is left over,
-// so no caller sees the fields.
+// The bytes since the last line end, the first len of the array. As many as it has stand for any more: both are too long. What stands
+// behind them is left over, so no caller sees the fields.
 pub struct OpenLine {
-    bytes: [u8; 286],
+    bytes: [u8; KEPT_BYTES],
     len: usize,
 }
 
@@ -26,7 +26,7 @@ pub struct ChunkSettled {
 
 // What is written at the end of the file, the first wrote bytes.
 pub struct EndSettled {
-    pub bytes: [u8; 46],
+    pub bytes: [u8; LISTED_BYTES],
     pub wrote: usize,
 }
 
@@ -37,11 +37,8 @@ struct Progress {
     wrote: usize,
 }
 
-// The most bytes of an open line that are kept.
-const KEPT: usize = 286;
-
-// The bytes of a line of the listing, its end included.
-const LISTED: usize = 46;
+// The most bytes of an open line that are kept: one more than the longest line has.
+const KEPT_BYTES: usize = 286;
 
 // The lesser of two numbers.
 fn least(a: usize, b: usize) -> usize
@@ -50,31 +47,19 @@ fn least(a: usize, b: usize) -> usize
     if a < b { a } else { b }
 }
 
-// Copies the first n bytes of a part to an index and on.
-fn copy(to: &mut [u8], at: usize, part: &[u8], n: usize)
-    requires { ⌜ (at + n ≤ length (now to)) × (n ≤ length (now part)) ⌝ }
-    ensures { λ _. ⌜ now (to .exit) ≡ paste (now (to .entry)) at (now (part .entry)) n ⌝ }
-{
-    let mut i = 0;
-    while i < n {
-        to[at + i] = part[i];
-        i += 1;
-    }
-}
-
-// Puts the part after the len bytes that are there, as far as 286 go, and gives how many are there then.
+// Puts the part after the len bytes that are there, as far as the array goes, and gives how many are there then.
 fn keep(bytes: &mut [u8], len: usize, part: &[u8]) -> usize
-    requires { ⌜ (length (now bytes) ≡ 286) × (len ≤ 286) ⌝ }
-    ensures { λ r. ⌜ Kept (now (bytes .entry)) len (now (part .entry)) (now (bytes .exit)) r ⌝ }
+    requires { ⌜ (length (now bytes) ≡ keptBytes) × (len ≤ keptBytes) ⌝ }
+    ensures { λ r. ⌜ PartKept (now (bytes .entry)) len (now (part .entry)) (now (bytes .exit)) r ⌝ }
 {
-    let n = least(KEPT - len, part.len());
-    copy(bytes, len, part, n);
+    let n = least(KEPT_BYTES - len, part.len());
+    bytes::copy(&part[..n], &mut bytes[len..]);
     len + n
 }
 
 // The listing's line for an open line that ends after the part. Where nothing is open, the part is not copied.
-fn end_line(bytes: &mut [u8], len: usize, part: &[u8]) -> [u8; 46]
-    requires { ⌜ (length (now bytes) ≡ 286) × (len ≤ 286) ⌝ }
+fn end_line(bytes: &mut [u8], len: usize, part: &[u8]) -> [u8; LISTED_BYTES]
+    requires { ⌜ (length (now bytes) ≡ keptBytes) × (len ≤ keptBytes) ⌝ }
     ensures { λ r. ⌜ r ≡ lineOf (take len (now (bytes .entry)) ++ now (part .entry)) ⌝ }
 {
     if len == 0 {
@@ -86,17 +71,18 @@ fn end_line(bytes: &mut [u8], len: usize, part: &[u8]) -> [u8; 46]
 
 // Settles the next part of the chunk: the line that ends in it, or what is open of one that goes on.
 fn settle_part(bytes: &mut [u8], chunk: &[u8], out: &mut [u8], at: Progress) -> Progress
-    requires { ⌜ (length (now bytes) ≡ 286) × (at .len ≤ 286) ⌝ }
-    requires { ⌜ (at .taken ≤ length (now chunk)) × (at .wrote + 46 ≤ length (now out)) ⌝ }
-    ensures { λ r. ⌜ PartTold (now (bytes .entry)) (now (chunk .entry)) (now (out .entry)) (now (bytes .exit)) (now (out .exit)) at r ⌝ }
+    requires { ⌜ (length (now bytes) ≡ keptBytes) × (at .len ≤ keptBytes) ⌝ }
+    requires { ⌜ (at .taken ≤ length (now chunk)) × (at .wrote + listedBytes ≤ length (now out)) ⌝ }
+    ensures { λ r. ⌜ PartSettled (now (bytes .entry)) (now (chunk .entry)) (now (out .entry)) (now (bytes .exit)) (now (out .exit)) at r ⌝ }
 {
     let taken = at.taken;
     let end = find(chunk, taken, chunk.len(), b'\n');
     if end < chunk.len() {
         let next = end + 1;
         let row = end_line(bytes, at.len, &chunk[taken..end]);
-        copy(out, at.wrote, &row, LISTED);
-        let wrote = at.wrote + LISTED;
+        let before = at.wrote;
+        bytes::copy(&row, &mut out[before..]);
+        let wrote = before + LISTED_BYTES;
         return Progress {
             len: 0,
             taken: next,
@@ -116,24 +102,24 @@ pub fn no_line() -> OpenLine
     ensures { λ r. ⌜ bytesOf r ≡ [] ⌝ }
 {
     OpenLine {
-        bytes: [0u8; 286],
+        bytes: [0u8; KEPT_BYTES],
         len: 0,
     }
 }
 
-// Works through a chunk to its end, or up to the line end after which out has no room for another line of 46 bytes; without
-// room for one, takes nothing.
+// Works through a chunk to its end, or up to the line end after which out has no room for another line; without room for one, takes
+// nothing.
 pub fn settle_chunk(before: OpenLine, chunk: &[u8], out: &mut [u8]) -> ChunkSettled
-    ensures { λ r. ⌜ numbersOf r (now (out .exit)) ≡ chunkOf (bytesOf before) (now (chunk .entry)) (now (out .entry)) ⌝ }
+    ensures { λ r. ⌜ numbersOfChunk r (now (out .exit)) ≡ chunkOf (bytesOf before) (now (chunk .entry)) (now (out .entry)) ⌝ }
 {
     let mut bytes = before.bytes;
     let mut at = Progress {
-        // The type allows any len; no more than 286 bytes are there.
-        len: least(before.len, KEPT),
+        // The type allows any len; no more bytes are there than the array has.
+        len: least(before.len, KEPT_BYTES),
         taken: 0,
         wrote: 0,
     };
-    while (at.taken < chunk.len()) & (LISTED <= out.len() - at.wrote) {
+    while (at.taken < chunk.len()) & (LISTED_BYTES <= out.len() - at.wrote) {
         at = settle_part(&mut bytes, chunk, out, at);
     }
     ChunkSettled {
@@ -149,15 +135,15 @@ pub fn settle_end(before: OpenLine) -> EndSettled
 {
     let bytes = before.bytes;
     // As in settle_chunk.
-    let open = least(before.len, KEPT);
+    let open = least(before.len, KEPT_BYTES);
     if open == 0 {
         return EndSettled {
-            bytes: [0u8; 46],
+            bytes: [0u8; LISTED_BYTES],
             wrote: 0,
         };
     }
     EndSettled {
         bytes: settle_line(&bytes[..open]),
-        wrote: LISTED,
+        wrote: LISTED_BYTES,
     }
 }

@@ -2,7 +2,8 @@
 // writing fails it stops and says so on standard error, and no line is printed for what was not read to its end.
 ghost use Prim.Native.Nat.{_≤_, _<_};
 ghost use lib.ListN.{length, take};
-ghost use Rattle.settle_cases.specs.Reading.{HandedOn};
+ghost use Rattle.case_line.specs.Line.{listedBytes};
+ghost use Rattle.settle_cases.specs.HandedOn.{HandedOn};
 use casefile::OpenLine;
 use libc::STDERR_FILENO;
 use libc::STDIN_FILENO;
@@ -31,7 +32,7 @@ struct Turn {
 
 // Settles what was read and prints it, as often as the buffer fills.
 fn print_settled(before: OpenLine, chunk: &[u8], out: &mut [u8]) -> Handed
-    requires { ⌜ 46 ≤ length (now out) ⌝ }
+    requires { ⌜ listedBytes ≤ length (now out) ⌝ }
     requires { ⌜ 0 < length (now chunk) ⌝ }
     ensures { λ r. ⌜ HandedOn before (now (chunk .entry)) (r .after) (r .next) ⌝ }
 {
@@ -57,7 +58,7 @@ fn print_settled(before: OpenLine, chunk: &[u8], out: &mut [u8]) -> Handed
 
 // Reads once, and settles and prints what was read.
 fn read_once(before: OpenLine, chunk: &mut [u8], out: &mut [u8]) -> Turn
-    requires { ⌜ 46 ≤ length (now out) ⌝ }
+    requires { ⌜ listedBytes ≤ length (now out) ⌝ }
     ensures { λ r. ⌜ r .read ≤ length (now (chunk .exit)) ⌝ }
     ensures { λ r. ⌜ HandedOn before (take (r .read) (now (chunk .exit))) (r .after) (r .next) ⌝ }
 {
@@ -117,7 +118,7 @@ fn print_end(after: OpenLine, next: Next) {
 
 // A turn of the loop: reads once, and prints what was settled and what ends the reading.
 fn settle_turn(before: OpenLine, chunk: &mut [u8], out: &mut [u8]) -> Turn
-    requires { ⌜ 46 ≤ length (now out) ⌝ }
+    requires { ⌜ listedBytes ≤ length (now out) ⌝ }
     ensures { λ r. ⌜ r .read ≤ length (now (chunk .exit)) ⌝ }
     ensures { λ r. ⌜ HandedOn before (take (r .read) (now (chunk .exit))) (r .after) (r .next) ⌝ }
 {
@@ -131,7 +132,7 @@ fn settle_turn(before: OpenLine, chunk: &mut [u8], out: &mut [u8]) -> Turn
 // Reads, settles and prints until the input ends or something fails. The turns count down, since no contract says that the
 // input ends.
 fn settle_input(chunk: &mut [u8], out: &mut [u8])
-    requires { ⌜ 46 ≤ length (now out) ⌝ }
+    requires { ⌜ listedBytes ≤ length (now out) ⌝ }
 {
     let mut turns = u64::MAX;
     let mut after = casefile::no_line();

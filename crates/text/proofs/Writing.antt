@@ -11,7 +11,8 @@ use lib.ListN.{length, take, drop, set, length-append, length-drop, length-set, 
 use lib.Seq.{set-split, drop-at, take-set-le, take-take, append-snoc, take-at, length-take-le}
 use Rattle.common.proofs.Tests.{by-test}
 use Rattle.common.proofs.Choice.{either}
-use Rattle.text.specs.Column.{glyphOf, frontOf, columnOf, putAt}
+use Rattle.text.specs.Column.{glyphOf, frontOf, columnOf}
+use Rattle.text.specs.Steps.{putAt}
 
 length-front : (w v : ℕ) → length (frontOf w v) ≡ w
 unfolding frontOf

@@ -1,9 +1,8 @@
--- A number written in a field, right-justified. A column is one byte of it.
+-- Document 01, "The case file": a number written in a field, right-justified. A column is one byte of it.
 -- Assumes nothing.
 use mathlib.Core.List.{List, [], _∷_, _++_}
 use Prim.Native.Nat.{ℕ, zero, suc, _+_, _/_, _%_}
-use lib.Dec.{leb, eqb}
-use lib.ListN.{length, take, drop}
+use lib.Dec.{eqb}
 use Rattle.common.specs.Choice.{pick}
 
 -- one column: the last digit of v, and a space where v has none left
@@ -20,7 +19,3 @@ frontOf (suc w) v = frontOf w (v / 10) ++ (glyphOf v ∷ [])
 unfoldable pub columnOf : ℕ → ℕ → List ℕ
 columnOf zero v = []
 columnOf (suc w) v = frontOf w (v / 10) ++ ((48 + v % 10) ∷ [])
-
--- the bytes put into a list at an index; as it was where it has no room for them
-unfoldable pub putAt : List ℕ → ℕ → List ℕ → List ℕ
-putAt l at bytes = pick (leb (at + length bytes) (length l)) (take at l ++ bytes ++ drop (at + length bytes) l) l

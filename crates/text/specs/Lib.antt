@@ -1,3 +1,3 @@
 pub mod Field
 pub mod Column
-pub mod Told
+pub mod Steps

@@ -4,8 +4,8 @@ ghost use Prim.Native.Nat.{_+_, _<_, _≤_};
 ghost use mathlib.Core.List.{_++_};
 ghost use lib.ListN.{length, take, drop};
 ghost use Rattle.text.specs.Field.{digitsOf, fieldOf};
-ghost use Rattle.text.specs.Column.{glyphOf, columnOf, putAt};
-ghost use Rattle.text.specs.Told.{Spaces};
+ghost use Rattle.text.specs.Column.{glyphOf, columnOf};
+ghost use Rattle.text.specs.Steps.{Spaces, putAt};
 
 // What a field says.
 pub enum Field {

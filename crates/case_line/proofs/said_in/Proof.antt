@@ -1,7 +1,7 @@
 -- `case_line::said_in` meets its contract.
 -- Assumes nothing.
 use mathlib.Core.Path.{sym, ap, _∙_}
-use Rattle.case_line.specs.Told.{saidBy}
+use Rattle.case_line.specs.Steps.{saidBy}
 use borrow.Author.Needs.{needs}
 use Rattle.case_line.proofs.said_in.Statement.{statement}
 use Rattle.case_line.proofs.said_in.Tie as tie

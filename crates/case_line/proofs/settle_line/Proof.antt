@@ -5,14 +5,15 @@ use Prim.Native.Nat.{_≤_}
 use native.Mathlib.Omega.{arith}
 use denote.Ref.{now}
 use lib.ListN.{length}
-use Rattle.case_line.proofs.Range.{inside}
-use Rattle.case_line.proofs.Shapes.{not-in-length, no-fields, whole}
+use Rattle.case_line.specs.Line.{fieldsBytes, longestLine}
+use Rattle.case_line.proofs.Range.{in-between}
+use Rattle.case_line.proofs.Shapes.{not-in-length, no-fields, whole-line}
 use borrow.Author.Needs.{needs}
 use Rattle.case_line.proofs.settle_line.Statement.{statement}
 use Rattle.case_line.proofs.settle_line.Tie as tie
 
-in-length : (c : tie.Else1) → (29 ≤ length (now (c .before .before .args .line))) × (length (now (c .before .before .args .line)) ≤ 285)
-in-length c = inside 29 285 (length (now (c .before .before .args .line))) (c .if1 .left)
+in-length : (c : tie.Else1) → (fieldsBytes ≤ length (now (c .before .before .args .line))) × (length (now (c .before .before .args .line)) ≤ longestLine)
+in-length c = in-between fieldsBytes longestLine (length (now (c .before .before .args .line))) (c .if1 .left)
 
 wrong-shape-requires : tie.Need-wrong-shape-requires
 wrong-shape-requires c κs = search needs
@@ -49,7 +50,7 @@ returns-2 c =
     let f = c .before .before .before .before .before in
     let range = in-length (f .before) in
     let fields = sym (f .read-fields .ensures) ∙ c .before .before .before .case .given .1 in
-    c .settle-case .ensures ∙ sym (whole _ (range .0) (range .1) fields)
+    c .settle-case .ensures ∙ sym (whole-line _ (range .0) (range .1) fields)
 
 returns-3 : tie.Need-returns-3
 returns-3 c =

@@ -1,4 +1,4 @@
--- `casefile::end_line` meets its contract: 286 bytes of a line tell as much as all of it.
+-- `casefile::end_line` meets its contract: the bytes of a line that are kept tell as much as all of it.
 -- Assumes nothing.
 use mathlib.Core.Path.{sym, ap, _∙_}
 use native.Mathlib.Omega.{arith}

@@ -5,7 +5,8 @@ use Prim.Native.Nat.{_-_, _<_, _≤_}
 use native.Mathlib.Omega.{arith}
 use denote.Ref.{now}
 use lib.ListN.{length, take}
-use Rattle.casefile.specs.Stream.{bytesOf}
+use Rattle.case_line.specs.Line.{listedBytes}
+use Rattle.casefile.specs.Stream.{keptBytes, bytesOf}
 use Rattle.casefile.proofs.Settling.{Settling, further, at-start, part-settled, part-moves, chunk-settled}
 use Rattle.casefile.proofs.Keeping.{open-least}
 use borrow.Author.Needs.{needs}
@@ -18,7 +19,7 @@ Inv-loop chunk out₀ bytes₀ at₀ out bytes at = Settling (take (at₀ .len) 
 abbrev μ-loop : tie.MeasureT-loop
 μ-loop chunk out₀ bytes₀ at₀ out bytes at = length chunk - at .taken
 
-entry-long : (c : tie.After-least Inv-loop μ-loop) → length (c .before .before .before .before .args .before .bytes) ≡ 286
+entry-long : (c : tie.After-least Inv-loop μ-loop) → length (c .before .before .before .before .args .before .bytes) ≡ keptBytes
 entry-long c = search needs
 
 entry-open : (c : tie.After-least Inv-loop μ-loop) → take (c .least .result) (c .before .before .before .before .args .before .bytes) ≡ bytesOf (c .before .before .before .before .args .before)
@@ -26,7 +27,7 @@ entry-open c = open-least _ _ (entry-long c) (c .least .ensures)
 
 more : (c : tie.Then1 Inv-loop μ-loop)
     → (c .before .before .before .loop .at .taken < length (now (c .before .before .before .before .before .before .before .before .args .chunk)))
-    × (46 ≤ length (c .before .before .before .loop .out) - c .before .before .before .loop .at .wrote)
+    × (listedBytes ≤ length (c .before .before .before .loop .out) - c .before .before .before .loop .at .wrote)
 more c = further _ _ _ (c .if1 .taken)
 
 least-requires : tie.Need-least-requires Inv-loop μ-loop

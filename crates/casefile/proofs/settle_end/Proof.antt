@@ -4,14 +4,14 @@ use mathlib.Core.Path.{_≡_, sym}
 use native.Mathlib.Omega.{arith}
 use lib.ListN.{length, take}
 use lib.Seq.{length-take-le}
-use Rattle.casefile.specs.Stream.{bytesOf}
+use Rattle.casefile.specs.Stream.{keptBytes, bytesOf}
 use Rattle.casefile.proofs.Keeping.{open-least}
 use Rattle.casefile.proofs.Last.{no-last-line, last-line}
 use borrow.Author.Needs.{needs}
 use Rattle.casefile.proofs.settle_end.Statement.{statement}
 use Rattle.casefile.proofs.settle_end.Tie as tie
 
-entry-long : (c : tie.After-least) → length (c .before .before .args .before .bytes) ≡ 286
+entry-long : (c : tie.After-least) → length (c .before .before .args .before .bytes) ≡ keptBytes
 entry-long c = search needs
 
 entry-open : (c : tie.After-least) → take (c .least .result) (c .before .before .args .before .bytes) ≡ bytesOf (c .before .before .args .before)

@@ -1,10 +1,14 @@
 -- `casefile::settle_part` meets its contract.
 -- Assumes nothing.
-use mathlib.Core.Path.{refl}
+use mathlib.Core.Path.{_≡_, refl, sym}
 use native.Mathlib.Omega.{arith}
 use denote.Ref.{now}
-use Rattle.casefile.specs.Told.{EndFound, line-ends, goes-on}
+use lib.ListN.{length}
+use borrow.Rule.Slice.PartMut.{mid-len}
+use Rattle.case_line.specs.Line.{listedBytes}
+use Rattle.casefile.specs.Steps.{EndFound, line-ends, goes-on}
 use Rattle.casefile.proofs.Ends.{end-found}
+use Rattle.casefile.proofs.Keeping.{copied-in}
 use borrow.Author.Needs.{needs}
 use Rattle.casefile.proofs.settle_part.Statement.{statement}
 use Rattle.casefile.proofs.settle_part.Tie as tie
@@ -33,24 +37,40 @@ end-line-requires c κs = search needs
 slice-aggregate-copy : tie.Need-slice-aggregate-copy
 slice-aggregate-copy c = search needs
 
+sub-copy : tie.Need-sub-copy
+sub-copy c = search needs
+
+part-copy-start : tie.Need-part-copy-start
+part-copy-start c = search needs
+
+part-copy-end : tie.Need-part-copy-end
+part-copy-end c = search needs
+
 copy-requires : tie.Need-copy-requires
-copy-requires c κs = search needs
+copy-requires c κs =
+    let start = c .before .before .before .before .before .before .before .before .before .before .before .before in
+    let out = now (start .args .out) in
+    let row : length (c .before .before .before .before .end-line .result) ≡ listedBytes = search needs in
+    omega (arith, row, mid-len (start .args .at .wrote) (length out) out (omega arith), start .pre)
 
 add-wrote : tie.Need-add-wrote
 add-wrote c = search needs
 
 same-length : tie.Need-same-length
-same-length c = c .before .before .before .before .before .before .before .before .end-line .kept .0
+same-length c = c .before .before .before .before .before .before .before .end-line .kept .0
 
 same-length-2 : tie.Need-same-length-2
-same-length-2 c = c .before .before .before .copy .kept .0
+same-length-2 c = search needs
 
 returns : tie.Need-returns
 returns c =
-    let row = c .before .before .before .before .before .before .before .before in
+    let row = c .before .before .before .before .before .before .before in
     let end = row .before .before .before .before in
-    line-ends (found end) (row .before .before .before .if1 .taken)
-    (row .end-line .ensures) (c .before .before .before .copy .ensures)
+    let start = end .before .before .before .before in
+    let long : length (row .end-line .result) ≡ listedBytes = search needs in
+    line-ends (found end) (row .before .before .before .if1 .taken) (row .end-line .ensures)
+    (copied-in (now (start .args .out)) (row .end-line .result) _ (start .args .at .wrote) listedBytes (sym long)
+    (omega (arith, start .pre)) (c .before .before .copy .ensures .1))
 
 sub-keep : tie.Need-sub-keep
 sub-keep c = omega (arith, found (c .before .before) .after)
@@ -83,6 +103,9 @@ settle-part-spec =
     part-end-line-end
     end-line-requires
     slice-aggregate-copy
+    sub-copy
+    part-copy-start
+    part-copy-end
     copy-requires
     add-wrote
     same-length

@@ -5,6 +5,7 @@ use Prim.Native.Nat.{_≤_}
 use native.Mathlib.Omega.{arith}
 use lib.ListN.{length}
 use lib.Seq.{length-take-le}
+use Rattle.case_line.specs.Line.{listedBytes}
 use Rattle.casefile.proofs.Laws.{end-wrote}
 use borrow.Author.Needs.{needs}
 use Rattle.settle_cases.proofs.print_last.Statement.{statement}
@@ -12,7 +13,7 @@ use Rattle.settle_cases.proofs.print_last.Tie as tie
 
 within : (c : tie.After-settle-end) → c .settle-end .result .wrote ≤ length (c .settle-end .result .bytes)
 within c =
-    let long : length (c .settle-end .result .bytes) ≡ 46 = search needs in
+    let long : length (c .settle-end .result .bytes) ≡ listedBytes = search needs in
     omega (arith, end-wrote (c .before .args .before) (c .settle-end .ensures))
 
 settle-end-requires : tie.Need-settle-end-requires

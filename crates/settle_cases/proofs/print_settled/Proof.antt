@@ -9,7 +9,7 @@ use lib.ListN.{length, take, drop, length-drop}
 use lib.Seq.{take-all, take-take, take-add, length-take-le}
 use Rattle.casefile.specs.declared.OpenLine.{OpenLine}
 use Rattle.casefile.specs.declared.ChunkSettled.{ChunkSettled}
-use Rattle.casefile.specs.Stream.{openAfter, bytesOf}
+use Rattle.casefile.specs.Stream.{keptBytes, openAfter, bytesOf}
 use Rattle.casefile.proofs.Laws.{chunk-taken, chunk-moves, chunk-wrote, chunk-keeps, all-kept}
 use borrow.Author.Needs.{needs}
 use Rattle.settle_cases.proofs.print_settled.Statement.{statement}
@@ -17,7 +17,7 @@ use Rattle.settle_cases.proofs.print_settled.Tie as tie
 
 -- what is kept after the first `at` bytes of the chunk, where `before` was open
 abbrev Kept : OpenLine → List ℕ → ℕ → OpenLine → Type 0
-Kept before chunk at after = bytesOf after ≡ take 286 (openAfter (bytesOf before) (take at chunk))
+Kept before chunk at after = bytesOf after ≡ take keptBytes (openAfter (bytesOf before) (take at chunk))
 
 abbrev Inv-loop : tie.InvT-loop
 Inv-loop chunk out₀ after₀ at₀ out after at = (at ≤ length chunk) × (length out ≡ length out₀) × Kept after₀ chunk at after
@@ -26,7 +26,7 @@ abbrev μ-loop : tie.MeasureT-loop
 μ-loop chunk out₀ after₀ at₀ out after at = length chunk - at
 
 -- what a call took of the rest of the chunk, wrote and left open
-record Told (before : OpenLine) (chunk : List ℕ) (at : ℕ) (out : List ℕ) (r : ChunkSettled) : Type 0 where
+record Called (before : OpenLine) (chunk : List ℕ) (at : ℕ) (out : List ℕ) (r : ChunkSettled) : Type 0 where
   some : 0 < r .taken
   taken : at + r .taken ≤ length chunk
   wrote : r .wrote ≤ length out
@@ -38,13 +38,13 @@ parts : (chunk : List ℕ) (at n : ℕ) → at + n ≤ length chunk
 parts chunk at n h =
     ap (λ (l : List ℕ). take at chunk ++ l) (take-take n (length chunk - at) (drop at chunk) (omega arith)) ∙ sym (take-add at n chunk)
 
-told : (c : tie.After-settle-chunk Inv-loop μ-loop)
-    → Told (c .before .before .before .before .before .before .before .args .before)
+called : (c : tie.After-settle-chunk Inv-loop μ-loop)
+    → Called (c .before .before .before .before .before .before .before .args .before)
     (now (c .before .before .before .before .before .before .before .args .chunk))
     (c .before .before .before .before .loop .at)
     (c .settle-chunk .last .1 .1 .0)
     (c .settle-chunk .result)
-told c =
+called c =
     let w = c .before .before .before .before .loop in
     let x = c .before .before .before .before .before .before .before in
     let r = c .settle-chunk .result in
@@ -60,13 +60,13 @@ told c =
       wrote = chunk-wrote (w .after) part (w .out) _ r is;
       kept =
           chunk-keeps (w .after) part (w .out) _ r is (bytesOf (x .args .before)) (take (w .at) chunk) (w .inv .2)
-          ∙ ap (λ (l : List ℕ). take 286 (openAfter (bytesOf (x .args .before)) l)) (parts chunk (w .at) (r .taken) within);
+          ∙ ap (λ (l : List ℕ). take keptBytes (openAfter (bytesOf (x .args .before)) l)) (parts chunk (w .at) (r .taken) within);
     }
 
 loop-holds : tie.Need-loop-holds Inv-loop μ-loop
 loop-holds c =
     let before = c .before .before .args .before in
-    let long : length (before .bytes) ≡ 286 = search needs in
+    let long : length (before .bytes) ≡ keptBytes = search needs in
     (omega arith, search needs, all-kept before long)
 
 sub-settle-chunk : tie.Need-sub-settle-chunk Inv-loop μ-loop
@@ -82,13 +82,13 @@ settle-chunk-requires : tie.Need-settle-chunk-requires Inv-loop μ-loop
 settle-chunk-requires c κs = search needs
 
 add-at : tie.Need-add-at Inv-loop μ-loop
-add-at c = omega (arith, told (c .before .before .before .before))
+add-at c = omega (arith, called (c .before .before .before .before))
 
 slice-reshare-prefix-write-all : tie.Need-slice-reshare-prefix-write-all Inv-loop μ-loop
-slice-reshare-prefix-write-all c = told (c .before .before .before .before) .wrote
+slice-reshare-prefix-write-all c = called (c .before .before .before .before) .wrote
 
 slice-aggregate-write-all : tie.Need-slice-aggregate-write-all Inv-loop μ-loop
-slice-aggregate-write-all c = sym (length-take-le _ _ (told (c .before .before .before .before .before) .wrote))
+slice-aggregate-write-all c = sym (length-take-le _ _ (called (c .before .before .before .before .before) .wrote))
 
 write-all-requires : tie.Need-write-all-requires Inv-loop μ-loop
 write-all-requires c κs = search needs
@@ -102,12 +102,12 @@ returns : tie.Need-returns Inv-loop μ-loop
 returns c = search needs
 
 loop-less : tie.Need-loop-less Inv-loop μ-loop
-loop-less c = omega (arith, told (c .before .before .before .before .before .before .before))
+loop-less c = omega (arith, called (c .before .before .before .before .before .before .before))
 
 loop-again : tie.Need-loop-again Inv-loop μ-loop
 loop-again c =
     let p = c .before .before .before .before .before .before .before in
-    (told p .taken, p .settle-chunk .kept .1 .1 .0 ∙ p .before .before .before .before .loop .inv .1, told p .kept)
+    (called p .taken, p .settle-chunk .kept .1 .1 .0 ∙ p .before .before .before .before .loop .inv .1, called p .kept)
 
 same-length-2 : tie.Need-same-length-2 Inv-loop μ-loop
 same-length-2 c = c .before .loop .inv .1

@@ -1,18 +1,18 @@
--- `case_line::read_marks` meets its contract. The invariant: what is passed is digits, and their numbers are written.
+-- `case_line::read_digits` meets its contract. The invariant: what is passed is digits, and their numbers are written.
 -- Assumes nothing.
 use mathlib.Core.Path.{refl, _∙_}
 use Prim.Native.Nat.{_-_, _≤_}
 use native.Mathlib.Omega.{arith}
 use denote.Ref.{now}
 use lib.ListN.{length, getD}
-use Rattle.case_line.proofs.Range.{inside}
-use Rattle.case_line.proofs.Marks.{MarksRead, not-all-digits, mark-more, no-digit, marks-end}
+use Rattle.case_line.proofs.Range.{in-between}
+use Rattle.case_line.proofs.Marks.{DigitsPassed, not-all-digits, mark-more, no-digit, marks-end}
 use borrow.Author.Needs.{needs}
-use Rattle.case_line.proofs.read_marks.Statement.{statement}
-use Rattle.case_line.proofs.read_marks.Tie as tie
+use Rattle.case_line.proofs.read_digits.Statement.{statement}
+use Rattle.case_line.proofs.read_digits.Tie as tie
 
 abbrev Inv-loop : tie.InvT-loop
-Inv-loop digits marks₀ i₀ marks i = MarksRead digits marks₀ marks i
+Inv-loop digits marks₀ i₀ marks i = DigitsPassed digits marks₀ marks i
 
 abbrev μ-loop : tie.MeasureT-loop
 μ-loop digits marks₀ i₀ marks i = length digits - i
@@ -34,7 +34,7 @@ returns c =
 digit : (c : tie.Else1 Inv-loop μ-loop)
     → (48 ≤ getD (now (c .before .before .before .before .args .digits)) (c .before .before .before .loop .i) 0)
     × (getD (now (c .before .before .before .before .args .digits)) (c .before .before .before .loop .i) 0 ≤ 57)
-digit c = inside 48 57 _ (c .if1 .left)
+digit c = in-between 48 57 _ (c .if1 .left)
 
 sub-marks : tie.Need-sub-marks Inv-loop μ-loop
 sub-marks c = digit c .0
@@ -57,8 +57,8 @@ same-length-2 c = c .before .loop .inv .long
 returns-2 : tie.Need-returns-2 Inv-loop μ-loop
 returns-2 c = marks-end _ _ _ _ (c .before .loop .inv) (c .loop-test .left)
 
-pub read-marks-spec : {M : Type 1} → statement M
-read-marks-spec =
+pub read-digits-spec : {M : Type 1} → statement M
+read-digits-spec =
     tie.close
     (tie.spec
     Inv-loop

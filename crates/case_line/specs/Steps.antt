@@ -1,4 +1,4 @@
--- What the steps of settling a line promise each other.
+-- Not rules: what the steps of settling a line promise each other.
 -- Assumes nothing.
 use mathlib.Core.Bool.{Bool, true, false}
 use mathlib.Core.List.{List}
@@ -16,6 +16,6 @@ saidBy (Number n) = record { right = true; number = n }
 saidBy NoNumber = record { right = false; number = 0 }
 
 -- whether all are digits, and their numbers where they are
-pub record MarksTold (digits marks : List ℕ) (r : Bool) : Type 0 where
-  pub told : r ≡ allDigits digits
+pub record DigitsRead (digits marks : List ℕ) (r : Bool) : Type 0 where
+  pub whether : r ≡ allDigits digits
   pub are : r ≡ true → take (length digits) marks ≡ marksIn digits
