@@ -8,8 +8,9 @@ use Rattle.rounding.specs.Nearest.{nearest, combineBy}
 use Rattle.terms.specs.declared.Terms.{Terms}
 use Rattle.election.specs.Price.{contributionIn, contributionOf}
 use Rattle.years.specs.Years.{yearCredit}
+use Rattle.years.specs.Elected.{purchaseIn}
 use Rattle.credit.specs.Credit.{creditIn}
-use Rattle.settlement.specs.Credit.{purchaseIn, creditOf}
+use Rattle.settlement.specs.Credit.{creditOf}
 use Rattle.rows.specs.Rows.{Row, _is_, only, at50, fiveYears, paidFor, missedFor, undivided, twelfthsAt, valueAt}
 
 -- the same terms with odd months

@@ -2,7 +2,7 @@
 -- Assumes nothing.
 use mathlib.Core.List.{List, [], _∷_}
 use Rattle.rates.specs.Rates.{rateOf}
-use Rattle.lookup.specs.Tenths.{inPence}
+use Rattle.lookup.specs.Narrow.{tenthsInPence}
 use Rattle.terms.specs.declared.Terms.{Terms}
 use Rattle.election.specs.Price.{contributionOf}
 use Rattle.rows.specs.Rows.{Row, _is_, only}
@@ -14,6 +14,6 @@ greatest = record { age = 63; «pnpa_years» = 65; «pnpa_months» = 0; option =
 -- the rate is 3,816 tenths of a pound; for twenty-six units that makes 99,216 tenths, more than 16 bits hold
 unfoldable pub narrowRows : List Row
 narrowRows =
-    (only (rateOf 2 65 63 1) is only (inPence 3816))
+    (only (rateOf 2 65 63 1) is only (tenthsInPence 3816))
     ∷ (only (contributionOf greatest) is only 992160)
     ∷ []

@@ -4,7 +4,8 @@
 use mathlib.Core.List.{List, [], _∷_, _++_}
 use Prim.Native.Nat.{ℕ, _*_}
 use Rattle.terms.specs.declared.Terms.{Terms}
-use Rattle.pay_off.specs.Price.{increasedBy, rateTwelfths, priceOf}
+use Rattle.rounding.specs.Nearest.{twelfths}
+use Rattle.pay_off.specs.Price.{increasedBy, priceOf}
 use Rattle.pay_off.specs.PayOff.{payOffOf}
 use Rattle.rows.specs.Rows.{Row, _is_, only, fiveYears, paidFor, missedFor}
 
@@ -13,7 +14,7 @@ use Rattle.rows.specs.Rows.{Row, _is_, only, fiveYears, paidFor, missedF
 unfoldable pub stepRows : List Row
 stepRows =
     (only (increasedBy 1011 119640) is only 120956)
-    ∷ (only (rateTwelfths 5 394000 373000) is only (12 * 385250))
+    ∷ (only (twelfths 5 394000 373000) is only (12 * 385250))
     ∷ (only (priceOf 120956 394000 373000 5) is only 1863932)
     ∷ (only (priceOf 120956 385250 0 0) is only 1863932)
     ∷ []

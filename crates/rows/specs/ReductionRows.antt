@@ -18,8 +18,8 @@ pub record Member : Type 0 where
   pub erf2 : ℕ
   pub erf3 : ℕ
 
-abbrev pub member : (npa age pay erf1 erf2 erf3 : ℕ) → Member
-member npa age pay erf1 erf2 erf3 = record { npa = npa; age = age; pay = pay; erf1 = erf1; erf2 = erf2; erf3 = erf3 }
+abbrev pub memberOf : (npa age pay erf1 erf2 erf3 : ℕ) → Member
+memberOf npa age pay erf1 erf2 erf3 = record { npa = npa; age = age; pay = pay; erf1 = erf1; erf2 = erf2; erf3 = erf3 }
 
 -- what a member is answered, with so much existing pension and under a limit
 abbrev pub numbersFor : Member → (existing limit : ℕ) → ReductionNumbers
@@ -44,10 +44,10 @@ limited m existing limit =
 -- document 003's members of the examples B and C. B has one factor there; its second candidate has here that of C for a year before the
 -- pension age, and its third, which is the pension age, 1,000
 abbrev pub exampleB : Member
-exampleB = member 67 50 30000 896 946 1000
+exampleB = memberOf 67 50 30000 896 946 1000
 
 abbrev pub exampleC : Member
-exampleC = member 68 35 70000 850 896 946
+exampleC = memberOf 68 35 70000 850 896 946
 
 -- the two examples: existing pension of £4,000 and £2,000, and a limit of £6,924
 unfoldable pub exampleRows : List Row
@@ -58,11 +58,11 @@ exampleRows =
 
 -- the member of example B with a pension age of 66, and a factor of 1,000 for the second candidate, which is that age
 abbrev pub until66 : Member
-until66 = member 66 50 30000 896 1000 1000
+until66 = memberOf 66 50 30000 896 1000 1000
 
 -- the member of example C with factors of 1: nothing is to be bought out, and every B is 0
 abbrev pub unreduced : Member
-unreduced = member 68 35 70000 1000 1000 1000
+unreduced = memberOf 68 35 70000 1000 1000 1000
 
 -- no existing pension, with a limit of 0 and one above B; B = C, where the next candidate is tried, and a limit that is a penny more; a limit
 -- below existing pension; the second candidate at the pension age, at B = C and with a penny more; all three fail; C is below zero
@@ -81,11 +81,11 @@ searchRows =
 
 -- a year before the first candidate, with factors of 0
 abbrev pub lastYear : ℕ → Member
-lastYear pay = member 66 64 pay 0 0 0
+lastYear pay = memberOf 66 64 pay 0 0 0
 
 -- the most years at the most pay, with factors of 0
-abbrev pub longest : Member
-longest = member 70 24 200000 0 0 0
+abbrev pub longestService : Member
+longestService = memberOf 70 24 200000 0 0 0
 
 -- the power of 0, 1, 4, 23 and 45 years: that of 4 rounds up, that of 23 has an exact half
 unfoldable pub powerRows : List Row
@@ -100,27 +100,27 @@ powerRows =
 unfoldable pub potentialRows : List Row
 potentialRows =
     (limited (lastYear 162) 0 0 is (0 ∷ 65 ∷ 305 ∷ 0 ∷ 0 ∷ []))
-    ∷ (limited longest 1 0 is (0 ∷ 0 ∷ 30209568 ∷ 31375797 ∷ 32570217 ∷ []))
+    ∷ (limited longestService 1 0 is (0 ∷ 0 ∷ 30209568 ∷ 31375797 ∷ 32570217 ∷ []))
     ∷ (only (potentialOf 45 200000 0) is only 32570217)
     ∷ (only (45 * 200000 * powerOf 45 * (1000 - 0)) is only 17587917135000000000)
     ∷ []
 
--- the refusal that a member gets
+-- the refusal that a memberOf gets
 abbrev pub refusedFor : Member → (existing limit : ℕ) → ℕ
 refusedFor m existing limit = numbersFor m existing limit .refusal
 
 -- the numbers on either side of each bound, and those within: pension age, age, pay, each factor, existing pension, limit
 unfoldable pub outOfRangeRows : List Row
 outOfRangeRows =
-    (map (λ (npa : ℕ). refusedFor (member npa 50 30000 896 946 1000) 400000 692400) (65 ∷ 66 ∷ 70 ∷ 71 ∷ []) is (18 ∷ 0 ∷ 0 ∷ 18 ∷ []))
-    ∷ (map (λ (age : ℕ). refusedFor (member 67 age 30000 896 946 1000) 400000 692400) (23 ∷ 24 ∷ 64 ∷ 65 ∷ []) is (18 ∷ 0 ∷ 0 ∷ 18 ∷ []))
-    ∷ (map (λ (pay : ℕ). refusedFor (member 67 50 pay 896 946 1000) 400000 692400) (0 ∷ 1 ∷ 200000 ∷ 200001 ∷ []) is (18 ∷ 0 ∷ 0 ∷ 18 ∷ []))
-    ∷ (map (λ (erf : ℕ). refusedFor (member 67 50 30000 erf 946 1000) 400000 692400) (1000 ∷ 1001 ∷ []) is (0 ∷ 18 ∷ []))
-    ∷ (map (λ (erf : ℕ). refusedFor (member 67 50 30000 896 erf 1000) 400000 692400) (1000 ∷ 1001 ∷ []) is (0 ∷ 18 ∷ []))
-    ∷ (map (λ (erf : ℕ). refusedFor (member 67 50 30000 896 946 erf) 0 0) (1000 ∷ 1001 ∷ []) is (0 ∷ 18 ∷ []))
+    (map (λ (npa : ℕ). refusedFor (memberOf npa 50 30000 896 946 1000) 400000 692400) (65 ∷ 66 ∷ 70 ∷ 71 ∷ []) is (18 ∷ 0 ∷ 0 ∷ 18 ∷ []))
+    ∷ (map (λ (age : ℕ). refusedFor (memberOf 67 age 30000 896 946 1000) 400000 692400) (23 ∷ 24 ∷ 64 ∷ 65 ∷ []) is (18 ∷ 0 ∷ 0 ∷ 18 ∷ []))
+    ∷ (map (λ (pay : ℕ). refusedFor (memberOf 67 50 pay 896 946 1000) 400000 692400) (0 ∷ 1 ∷ 200000 ∷ 200001 ∷ []) is (18 ∷ 0 ∷ 0 ∷ 18 ∷ []))
+    ∷ (map (λ (erf : ℕ). refusedFor (memberOf 67 50 30000 erf 946 1000) 400000 692400) (1000 ∷ 1001 ∷ []) is (0 ∷ 18 ∷ []))
+    ∷ (map (λ (erf : ℕ). refusedFor (memberOf 67 50 30000 896 erf 1000) 400000 692400) (1000 ∷ 1001 ∷ []) is (0 ∷ 18 ∷ []))
+    ∷ (map (λ (erf : ℕ). refusedFor (memberOf 67 50 30000 896 946 erf) 0 0) (1000 ∷ 1001 ∷ []) is (0 ∷ 18 ∷ []))
     ∷ (map (λ (existing : ℕ). refusedFor exampleB existing 692400) (100000000 ∷ 100000001 ∷ []) is (0 ∷ 18 ∷ []))
     ∷ (map (λ (limit : ℕ). refusedFor exampleB 0 limit) (100000000 ∷ 100000001 ∷ []) is (0 ∷ 18 ∷ []))
-    ∷ (limited (member 65 50 30000 896 946 1000) 400000 692400 is (18 ∷ 0 ∷ 0 ∷ 0 ∷ 0 ∷ []))
+    ∷ (limited (memberOf 65 50 30000 896 946 1000) 400000 692400 is (18 ∷ 0 ∷ 0 ∷ 0 ∷ 0 ∷ []))
     ∷ []
 
 -- all of them

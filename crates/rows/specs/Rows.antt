@@ -8,9 +8,10 @@ use Rattle.rounding.specs.Nearest.{nearest, blend}
 use Rattle.terms.specs.declared.Terms.{Terms}
 use Rattle.terms.specs.Rules.{refusalOf}
 use Rattle.election.specs.Price.{contributionOf}
-use Rattle.years.specs.Years.{yearCredits, monthValue}
+use Rattle.years.specs.Years.{yearCredits, monthNumerator, monthValue}
+use Rattle.years.specs.Elected.{purchaseIn}
 use Rattle.distance.specs.Fraction.{Fraction}
-use Rattle.settlement.specs.Credit.{purchaseIn, exactCreditOf}
+use Rattle.settlement.specs.Credit.{exactCreditOf}
 use Rattle.settlement.specs.Settle.{settleOf}
 
 pub record Row : Type 0 where
@@ -59,8 +60,8 @@ abbrev pub missedFor : ℕ → List ℕ
 missedFor n = replicate n 0
 
 -- the numbers of a settlement: refusal, place, contribution, status, credit, refund
-abbrev pub settled : Terms → List ℕ → List ℕ
-settled t marks =
+abbrev pub sixNumbers : Terms → List ℕ → List ℕ
+sixNumbers t marks =
     let n = settleOf t marks in
     n .refusal ∷ n .place ∷ n .contribution ∷ n .status ∷ n .credit ∷ n .refund ∷ []
 
@@ -78,18 +79,18 @@ undivided n d = n
 
 -- twelve times that value before it is rounded
 abbrev pub twelfthsAt : Terms → ℕ → ℕ
-twelfthsAt t month = monthValue undivided (yearCredits nearest (purchaseIn t (t .«pnpa_years»))) month
+twelfthsAt t month = monthNumerator (yearCredits nearest (purchaseIn t (t .«pnpa_years»))) month
 
 -- year 1 and five paid months of the first contract; years 1 to 5, 18 paid months and the gap of the second
 unfoldable pub creditRows : List Row
 creditRows =
     (firstYears 2 nineYears is (0 ∷ 17198 ∷ []))
-    ∷ (settled nineYears (paidFor 5) is (0 ∷ 0 ∷ 17150 ∷ 1 ∷ 7166 ∷ 0 ∷ []))
+    ∷ (sixNumbers nineYears (paidFor 5) is (0 ∷ 0 ∷ 17150 ∷ 1 ∷ 7166 ∷ 0 ∷ []))
     ∷ (firstYears 6 fiveYears is (0 ∷ 22259 ∷ 43338 ∷ 63285 ∷ 82201 ∷ 100000 ∷ []))
-    ∷ (settled fiveYears (paidFor 18) is (0 ∷ 0 ∷ 24200 ∷ 1 ∷ 32798 ∷ 0 ∷ []))
+    ∷ (sixNumbers fiveYears (paidFor 18) is (0 ∷ 0 ∷ 24200 ∷ 1 ∷ 32798 ∷ 0 ∷ []))
     ∷ (only (twelfthsAt fiveYears 18) is only 393582)
     ∷ ((valueAt fiveYears 18 ∷ valueAt fiveYears 28 ∷ valueAt fiveYears 22 ∷ []) is (32798 ∷ 49987 ∷ 39825 ∷ []))
-    ∷ (settled fiveYears (paidFor 18 ++ (missedFor 4 ++ paidFor 6)) is (0 ∷ 0 ∷ 24200 ∷ 1 ∷ 42960 ∷ 0 ∷ []))
+    ∷ (sixNumbers fiveYears (paidFor 18 ++ (missedFor 4 ++ paidFor 6)) is (0 ∷ 0 ∷ 24200 ∷ 1 ∷ 42960 ∷ 0 ∷ []))
     ∷ []
 
 -- a fraction's whole part, and that it is n ÷ d, multiplied out
@@ -109,20 +110,20 @@ exactRows =
 -- notice after eleven and after twelve paid months, resuming after eleven and after twelve missed ones, and first marks 0 and 2
 unfoldable pub statusRows : List Row
 statusRows =
-    (settled fiveYears (paidFor 11 ++ (2 ∷ [])) is (0 ∷ 0 ∷ 24200 ∷ 5 ∷ 0 ∷ 266200 ∷ []))
-    ∷ (settled fiveYears (paidFor 12 ++ (2 ∷ [])) is (0 ∷ 0 ∷ 24200 ∷ 4 ∷ 22259 ∷ 0 ∷ []))
+    (sixNumbers fiveYears (paidFor 11 ++ (2 ∷ [])) is (0 ∷ 0 ∷ 24200 ∷ 5 ∷ 0 ∷ 266200 ∷ []))
+    ∷ (sixNumbers fiveYears (paidFor 12 ++ (2 ∷ [])) is (0 ∷ 0 ∷ 24200 ∷ 4 ∷ 22259 ∷ 0 ∷ []))
     ∷ (only (settleOf fiveYears (paidFor 1 ++ (missedFor 11 ++ paidFor 1)) .refusal) is only 0)
-    ∷ (settled fiveYears (paidFor 1 ++ (missedFor 12 ++ paidFor 1)) is (12 ∷ 13 ∷ 0 ∷ 0 ∷ 0 ∷ 0 ∷ []))
-    ∷ (settled fiveYears (0 ∷ []) is (12 ∷ 0 ∷ 0 ∷ 0 ∷ 0 ∷ 0 ∷ []))
-    ∷ (settled fiveYears (2 ∷ []) is (0 ∷ 0 ∷ 24200 ∷ 5 ∷ 0 ∷ 0 ∷ []))
+    ∷ (sixNumbers fiveYears (paidFor 1 ++ (missedFor 12 ++ paidFor 1)) is (12 ∷ 13 ∷ 0 ∷ 0 ∷ 0 ∷ 0 ∷ []))
+    ∷ (sixNumbers fiveYears (0 ∷ []) is (12 ∷ 0 ∷ 0 ∷ 0 ∷ 0 ∷ 0 ∷ []))
+    ∷ (sixNumbers fiveYears (2 ∷ []) is (0 ∷ 0 ∷ 24200 ∷ 5 ∷ 0 ∷ 0 ∷ []))
     ∷ []
 
 -- not in the paper: a contract on which rounding only at the end would give a penny more, and one with 5 odd months on which dividing
 -- the blended contribution by each table's rate would give other figures
 unfoldable pub tellingRows : List Row
 tellingRows =
-    (settled fiveYears (paidFor 1 ++ (missedFor 1 ++ paidFor 5)) is (0 ∷ 0 ∷ 24200 ∷ 1 ∷ 11129 ∷ 0 ∷ []))
-    ∷ (settled oddMonths (paidFor 30) is (0 ∷ 0 ∷ 25573 ∷ 1 ∷ 54042 ∷ 0 ∷ []))
+    (sixNumbers fiveYears (paidFor 1 ++ (missedFor 1 ++ paidFor 5)) is (0 ∷ 0 ∷ 24200 ∷ 1 ∷ 11129 ∷ 0 ∷ []))
+    ∷ (sixNumbers oddMonths (paidFor 30) is (0 ∷ 0 ∷ 25573 ∷ 1 ∷ 54042 ∷ 0 ∷ []))
     ∷ []
 
 -- all of them
