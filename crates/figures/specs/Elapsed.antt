@@ -1,4 +1,4 @@
--- The marks of a case, as its runs tell them.
+-- Not rules: the marks of a case of the program, as its runs tell them.
 -- Assumes nothing.
 use mathlib.Core.List.{List, [], _++_}
 use Prim.Native.Nat.{ℕ, _+_}

@@ -1,19 +1,19 @@
 // A line of output. What a write answers is not looked at: the stored output shows what is missing.
 use libc::STDOUT_FILENO;
 
-pub fn text(t: &[u8]) {
+pub fn write_text(t: &[u8]) {
     io::write_all(STDOUT_FILENO, t);
 }
 
-fn number(n: u64) {
-    text(b" ");
+fn write_number(n: u64) {
+    write_text(b" ");
     io::print_decimal(STDOUT_FILENO, n);
 }
 
-fn numbers(list: &[u64]) {
+fn write_numbers(list: &[u64]) {
     let mut i = 0;
     while i < list.len() {
-        number(list[i]);
+        write_number(list[i]);
         i += 1;
     }
 }
@@ -22,36 +22,36 @@ fn wide(n: u32) -> u64 {
     n as u64
 }
 
-pub fn entries(list: &[u32]) {
+pub fn write_entries(list: &[u32]) {
     let mut i = 0;
     while i < list.len() {
-        number(wide(list[i]));
+        write_number(wide(list[i]));
         i += 1;
     }
 }
 
 // The answer's number at an index. Gives the index of the one after it.
-fn answer_at(answer: [u64; 6], i: usize) -> usize {
+fn write_answer_at(answer: [u64; 6], i: usize) -> usize {
     if i < 6 {
-        number(answer[i]);
+        write_number(answer[i]);
         return i + 1;
     }
     i
 }
 
 // A form: `*` in it stands for what is asked, each `#` for the next number of the answer.
-pub fn filled(form: &[u8], asked: &[u64], answer: [u64; 6]) {
+pub fn write_line(form: &[u8], asked: &[u64], answer: [u64; 6]) {
     let mut given = 0;
     let mut i = 0;
     while i < form.len() {
         let b = form[i];
         i += 1;
         if b == b'*' {
-            numbers(asked);
+            write_numbers(asked);
         } else if b == b'#' {
-            given = answer_at(answer, given);
+            given = write_answer_at(answer, given);
         } else {
-            text(&[b]);
+            write_text(&[b]);
         }
     }
 }

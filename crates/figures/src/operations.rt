@@ -26,7 +26,7 @@ fn at(row: &[u64], column: usize) -> u64
 }
 
 // The same, as wide as the operations take it: the greatest such number for a greater one.
-fn narrow(row: &[u64], column: usize) -> u32 {
+fn narrow_at(row: &[u64], column: usize) -> u32 {
     let n = at(row, column);
     if n > 4294967295 {
         return 4294967295;
@@ -35,20 +35,20 @@ fn narrow(row: &[u64], column: usize) -> u32 {
 }
 
 // The first seven columns.
-fn terms(row: &[u64]) -> Terms {
+fn terms_in(row: &[u64]) -> Terms {
     Terms {
-        age: narrow(row, 0),
-        pnpa_years: narrow(row, 1),
-        pnpa_months: narrow(row, 2),
-        option: narrow(row, 3),
-        payer: narrow(row, 4),
-        term: narrow(row, 5),
-        amount: narrow(row, 6),
+        age: narrow_at(row, 0),
+        pnpa_years: narrow_at(row, 1),
+        pnpa_months: narrow_at(row, 2),
+        option: narrow_at(row, 3),
+        payer: narrow_at(row, 4),
+        term: narrow_at(row, 5),
+        amount: narrow_at(row, 6),
     }
 }
 
 // Columns 7 to 14: four runs of marks.
-fn marks(row: &[u64]) -> Elapsed
+fn marks_in(row: &[u64]) -> Elapsed
     ensures { λ r. ⌜ elapsedMarks r ≡ rowMarks (now (row .entry)) ⌝ }
 {
     let first = elapsed::then(elapsed::none(), at(row, 7), at(row, 8));
@@ -57,29 +57,29 @@ fn marks(row: &[u64]) -> Elapsed
     elapsed::then(third, at(row, 13), at(row, 14))
 }
 
-fn nearest(row: &[u64]) {
+fn print_nearest(row: &[u64]) {
     let n = rounding::nearest(at(row, 0), at(row, 1));
-    line::filled(b"nearest* is#", row, [n, 0, 0, 0, 0, 0]);
+    line::write_line(b"nearest* is#", row, [n, 0, 0, 0, 0, 0]);
 }
 
-fn blend(row: &[u64]) {
-    let n = rounding::blend(narrow(row, 0), narrow(row, 1), narrow(row, 2));
-    line::filled(b"blend* is#", row, [n, 0, 0, 0, 0, 0]);
+fn print_blend(row: &[u64]) {
+    let n = rounding::blend(narrow_at(row, 0), narrow_at(row, 1), narrow_at(row, 2));
+    line::write_line(b"blend* is#", row, [n, 0, 0, 0, 0, 0]);
 }
 
-fn rate(row: &[u64]) {
+fn print_rate(row: &[u64]) {
     let rate = monthly::monthly_rate(
-        narrow(row, 0),
-        narrow(row, 1),
-        narrow(row, 2),
-        narrow(row, 3),
+        narrow_at(row, 0),
+        narrow_at(row, 1),
+        narrow_at(row, 2),
+        narrow_at(row, 3),
     );
-    line::filled(b"rate* is#", row, [rate as u64, 0, 0, 0, 0, 0]);
+    line::write_line(b"rate* is#", row, [rate as u64, 0, 0, 0, 0, 0]);
 }
 
-fn cap_decision(row: &[u64]) {
+fn print_cap_decision(row: &[u64]) {
     let pounds = quotes::cap_decision(PensionPence(at(row, 0)));
-    line::filled(b"cap* is pounds#", row, [pounds as u64, 0, 0, 0, 0, 0]);
+    line::write_line(b"cap* is pounds#", row, [pounds as u64, 0, 0, 0, 0, 0]);
 }
 
 // Refusal, contribution, number, register.
@@ -95,23 +95,23 @@ fn quote_numbers(quoted: Quoted) -> [u64; 6] {
     }
 }
 
-fn quote(row: &[u64]) {
+fn print_quote(row: &[u64]) {
     let existing = PensionPence(at(row, 7));
-    let last = narrow(row, 8);
-    let answer = quote_numbers(quotes::quote(terms(row), existing, Register { last }));
-    line::filled(
+    let last = narrow_at(row, 8);
+    let answer = quote_numbers(quotes::quote(terms_in(row), existing, Register { last }));
+    line::write_line(
         b"quote* is refusal# contribution# number# register#",
         row,
         answer,
     );
 }
 
-fn settle(row: &[u64]) {
-    let months = marks(row);
+fn print_settle(row: &[u64]) {
+    let months = marks_in(row);
     let all = months.marks;
-    let settlement = settlement::settle(terms(row), elapsed::first(&all, months.count));
-    let n = numbers::numbers_of(settlement);
-    line::filled(
+    let answer = settlement::settle(terms_in(row), elapsed::first(&all, months.count));
+    let n = settlement::six_numbers_of(answer);
+    line::write_line(
         b"settle* is refusal# place# contribution# status# credit# refund#",
         row,
         [
@@ -127,19 +127,19 @@ fn settle(row: &[u64]) {
 
 // Schedule with the list that is lent.
 fn schedule_into(row: &[u64], months: &[u8], list: &mut [u32]) {
-    let answer = schedule::schedule(terms(row), months, list);
-    line::filled(
+    let answer = schedule::schedule(terms_in(row), months, list);
+    line::write_line(
         b"schedule* is refusal# place# entries",
         row,
         [answer.refusal as u64, answer.place as u64, 0, 0, 0, 0],
     );
-    line::entries(list);
+    line::write_entries(list);
 }
 
 // Each entry of the lent list holds 7 before the call, and the whole list is printed after it. A row that asks for more than 20
 // entries prints nothing.
-fn schedule(row: &[u64]) {
-    let months = marks(row);
+fn print_schedule(row: &[u64]) {
+    let months = marks_in(row);
     let all = months.marks;
     let entries = at(row, 15) as usize;
     let mut list = [7u32; 20];
@@ -165,12 +165,12 @@ fn pay_off_numbers(answer: PayOff) -> [u64; 6] {
     }
 }
 
-fn pay_off(row: &[u64]) {
-    let months = marks(row);
+fn print_pay_off(row: &[u64]) {
+    let months = marks_in(row);
     let all = months.marks;
     let elapsed = elapsed::first(&all, months.count);
-    let answer = pay_off::pay_off(terms(row), elapsed, narrow(row, 15), narrow(row, 16));
-    line::filled(
+    let answer = pay_off::pay_off(terms_in(row), elapsed, narrow_at(row, 15), narrow_at(row, 16));
+    line::write_line(
         b"pay-off* is refusal# place# remaining# increased# cost#",
         row,
         pay_off_numbers(answer),
@@ -193,18 +193,18 @@ fn reduction_numbers(answer: ReductionLimit) -> [u64; 6] {
     }
 }
 
-fn reduction_limit(row: &[u64]) {
+fn print_reduction_limit(row: &[u64]) {
     let answer = reduction::reduction_limit(Application {
-        npa: narrow(row, 0),
-        age: narrow(row, 1),
-        pay: narrow(row, 2),
-        erf_first: narrow(row, 3),
-        erf_second: narrow(row, 4),
-        erf_third: narrow(row, 5),
+        npa: narrow_at(row, 0),
+        age: narrow_at(row, 1),
+        pay: narrow_at(row, 2),
+        erf_first: narrow_at(row, 3),
+        erf_second: narrow_at(row, 4),
+        erf_third: narrow_at(row, 5),
         existing: PensionPence(at(row, 6)),
         limit: PensionPence(at(row, 7)),
     });
-    line::filled(
+    line::write_line(
         b"reduction-limit* is refusal# age# first# second# third#",
         row,
         reduction_numbers(answer),
@@ -214,15 +214,15 @@ fn reduction_limit(row: &[u64]) {
 // By the number of its columns, as cases.rt names them; any other row prints nothing.
 fn print_row(row: &[u64]) {
     match row.len() {
-        1 => cap_decision(row),
-        2 => nearest(row),
-        3 => blend(row),
-        4 => rate(row),
-        8 => reduction_limit(row),
-        9 => quote(row),
-        15 => settle(row),
-        16 => schedule(row),
-        17 => pay_off(row),
+        1 => print_cap_decision(row),
+        2 => print_nearest(row),
+        3 => print_blend(row),
+        4 => print_rate(row),
+        8 => print_reduction_limit(row),
+        9 => print_quote(row),
+        15 => print_settle(row),
+        16 => print_schedule(row),
+        17 => print_pay_off(row),
         _ => {}
     }
 }
@@ -243,9 +243,9 @@ pub fn print_table(document: &[u8], table: &[u64]) {
     let mut from = 0;
     while from < table.len() {
         let end = row_end(from, table[from], table.len());
-        line::text(document);
+        line::write_text(document);
         print_row(&table[from + 1..end]);
-        line::text(b"\n");
+        line::write_text(b"\n");
         from = end;
     }
 }

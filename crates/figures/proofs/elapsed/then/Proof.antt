@@ -8,7 +8,7 @@ use borrow.Author.Needs.{needs}
 use borrow.Author.Tests.{le-ltb}
 use Rattle.common.proofs.Tests.{tests}
 use Rattle.figures.specs.Elapsed.{withRun}
-use Rattle.figures.proofs.Runs.{moved, full, at-most}
+use Rattle.figures.proofs.Runs.{month-moved, buffer-full, at-most}
 use Rattle.figures.proofs.elapsed.then.Statement.{statement}
 use Rattle.figures.proofs.elapsed.then.Tie as tie
 
@@ -46,7 +46,7 @@ loop-again : tie.Need-loop-again Inv-loop μ-loop
 loop-again c =
     let w = c .before .before .loop in (
       length-set (w .marks) (w .count) _ ∙ w .inv .0,
-      ap (take 256) (sym (moved (w .marks) (w .count) (w .left) _ (omega arith) (omega arith))) ∙ w .inv .1,
+      ap (take 256) (sym (month-moved (w .marks) (w .count) (w .left) _ (omega arith) (omega arith))) ∙ w .inv .1,
     )
 
 loop-less-2 : tie.Need-loop-less-2 Inv-loop μ-loop
@@ -56,7 +56,7 @@ loop-again-2 : tie.Need-loop-again-2 Inv-loop μ-loop
 loop-again-2 c =
     let w = c .before .before .loop in (
       w .inv .0,
-      full (w .marks) (w .count) _ (w .inv .0) (omega arith) ∙ sym (full (w .marks) (w .count) _ (w .inv .0) (omega arith)) ∙ w .inv .1,
+      buffer-full (w .marks) (w .count) _ (w .inv .0) (omega arith) ∙ sym (buffer-full (w .marks) (w .count) _ (w .inv .0) (omega arith)) ∙ w .inv .1,
     )
 
 returns-2 : tie.Need-returns-2 Inv-loop μ-loop

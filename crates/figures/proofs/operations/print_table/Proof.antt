@@ -24,8 +24,8 @@ shared-slice-read-row-end c = search needs
 row-end-requires : tie.Need-row-end-requires Inv-loop μ-loop
 row-end-requires c κs = search needs
 
-text-requires : tie.Need-text-requires Inv-loop μ-loop
-text-requires c κs = search needs
+write-text-requires : tie.Need-write-text-requires Inv-loop μ-loop
+write-text-requires c κs = search needs
 
 add-print-row : tie.Need-add-print-row Inv-loop μ-loop
 add-print-row c = search needs
@@ -45,11 +45,11 @@ part-print-row-end c = search needs
 print-row-requires : tie.Need-print-row-requires Inv-loop μ-loop
 print-row-requires c κs = search needs
 
-slice-aggregate-text : tie.Need-slice-aggregate-text Inv-loop μ-loop
-slice-aggregate-text c = search needs
+slice-aggregate-write-text : tie.Need-slice-aggregate-write-text Inv-loop μ-loop
+slice-aggregate-write-text c = search needs
 
-text-requires-2 : tie.Need-text-requires-2 Inv-loop μ-loop
-text-requires-2 c κs = search needs
+write-text-requires-2 : tie.Need-write-text-requires-2 Inv-loop μ-loop
+write-text-requires-2 c κs = search needs
 
 loop-less : tie.Need-loop-less Inv-loop μ-loop
 loop-less c = search needs
@@ -70,15 +70,15 @@ print-table-spec =
     mul-row-end
     shared-slice-read-row-end
     row-end-requires
-    text-requires
+    write-text-requires
     add-print-row
     mul-print-row
     sub-print-row
     part-print-row-start
     part-print-row-end
     print-row-requires
-    slice-aggregate-text
-    text-requires-2
+    slice-aggregate-write-text
+    write-text-requires-2
     loop-less
     loop-again
     returns)

@@ -1,9 +1,9 @@
--- `operations::marks` meets its contract.
+-- `operations::marks_in` meets its contract.
 -- Assumes nothing.
 use borrow.Author.Needs.{needs}
-use Rattle.figures.proofs.Runs.{renamed}
-use Rattle.figures.proofs.operations.marks.Statement.{statement}
-use Rattle.figures.proofs.operations.marks.Tie as tie
+use Rattle.figures.proofs.Runs.{run-renamed}
+use Rattle.figures.proofs.operations.marks_in.Statement.{statement}
+use Rattle.figures.proofs.operations.marks_in.Tie as tie
 
 none-requires : tie.Need-none-requires
 none-requires c κs = search needs
@@ -50,13 +50,13 @@ returns c =
     let two = three .before .before .before in
     let one = two .before .before .before in
     let none = one .before .before .before in
-    let after-one = renamed (one .then .ensures) (none .none .ensures) (one .before .before .at .ensures) (one .before .at2 .ensures) in
-    let after-two = renamed (two .then2 .ensures) after-one (two .before .before .at3 .ensures) (two .before .at4 .ensures) in
-    let after-three = renamed (three .then3 .ensures) after-two (three .before .before .at5 .ensures) (three .before .at6 .ensures) in
-    renamed (c .then4 .ensures) after-three (c .before .before .at7 .ensures) (c .before .at8 .ensures)
+    let after-one = run-renamed (one .then .ensures) (none .none .ensures) (one .before .before .at .ensures) (one .before .at2 .ensures) in
+    let after-two = run-renamed (two .then2 .ensures) after-one (two .before .before .at3 .ensures) (two .before .at4 .ensures) in
+    let after-three = run-renamed (three .then3 .ensures) after-two (three .before .before .at5 .ensures) (three .before .at6 .ensures) in
+    run-renamed (c .then4 .ensures) after-three (c .before .before .at7 .ensures) (c .before .at8 .ensures)
 
-pub marks-spec : {M : Type 1} → statement M
-marks-spec =
+pub marks-in-spec : {M : Type 1} → statement M
+marks-in-spec =
     tie.close
     (tie.spec
     none-requires

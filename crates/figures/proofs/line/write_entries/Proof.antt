@@ -1,10 +1,10 @@
--- `line::entries` is safe and ends: the measure is what is left of the list.
+-- `line::write_entries` is safe and ends: the measure is what is left of the list.
 -- Assumes nothing.
 use Prim.Native.Nat.{_≤_, _-_}
 use borrow.Author.Needs.{needs}
 use lib.ListN.{length}
-use Rattle.figures.proofs.line.entries.Statement.{statement}
-use Rattle.figures.proofs.line.entries.Tie as tie
+use Rattle.figures.proofs.line.write_entries.Statement.{statement}
+use Rattle.figures.proofs.line.write_entries.Tie as tie
 
 abbrev Inv-loop : tie.InvT-loop
 Inv-loop list i₀ i = i ≤ length list
@@ -24,8 +24,8 @@ shared-slice-read-wide c = search needs
 wide-requires : tie.Need-wide-requires Inv-loop μ-loop
 wide-requires c κs = search needs
 
-number-requires : tie.Need-number-requires Inv-loop μ-loop
-number-requires c κs = search needs
+write-number-requires : tie.Need-write-number-requires Inv-loop μ-loop
+write-number-requires c κs = search needs
 
 add-i : tie.Need-add-i Inv-loop μ-loop
 add-i c = search needs
@@ -39,8 +39,8 @@ loop-again c = search needs
 returns : tie.Need-returns Inv-loop μ-loop
 returns c = search needs
 
-pub entries-spec : {M : Type 1} → statement M
-entries-spec =
+pub write-entries-spec : {M : Type 1} → statement M
+write-entries-spec =
     tie.close
     (tie.spec
     Inv-loop
@@ -49,7 +49,7 @@ entries-spec =
     mul-wide
     shared-slice-read-wide
     wide-requires
-    number-requires
+    write-number-requires
     add-i
     loop-less
     loop-again

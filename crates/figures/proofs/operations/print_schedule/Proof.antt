@@ -1,14 +1,14 @@
--- `operations::schedule` is safe: the part of the list that it lends has as many entries as the row asks for.
+-- `operations::print_schedule` is safe: the part of the list that it lends has as many entries as the row asks for.
 -- Assumes nothing.
 use mathlib.Core.Path.{sym}
 use native.Mathlib.Omega.{arith}
 use lib.Seq.{length-take-le}
 use borrow.Author.Needs.{needs}
-use Rattle.figures.proofs.operations.schedule.Statement.{statement}
-use Rattle.figures.proofs.operations.schedule.Tie as tie
+use Rattle.figures.proofs.operations.print_schedule.Statement.{statement}
+use Rattle.figures.proofs.operations.print_schedule.Tie as tie
 
-marks-requires : tie.Need-marks-requires
-marks-requires c κs = search needs
+marks-in-requires : tie.Need-marks-in-requires
+marks-in-requires c κs = search needs
 
 at-requires : tie.Need-at-requires
 at-requires c κs = search needs
@@ -31,11 +31,11 @@ schedule-into-requires c κs = search needs
 returns-2 : tie.Need-returns-2
 returns-2 c = search needs
 
-pub schedule-spec : {M : Type 1} → statement M
-schedule-spec =
+pub print-schedule-spec : {M : Type 1} → statement M
+print-schedule-spec =
     tie.close
     (tie.spec
-    marks-requires
+    marks-in-requires
     at-requires
     returns
     first-requires
