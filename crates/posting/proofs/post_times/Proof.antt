@@ -1,9 +1,9 @@
--- `posting::times` is safe and ends.
+-- `posting::post_times` is safe and ends.
 -- Assumes nothing.
 use Prim.Native.Nat.{_≤_, _-_}
 use borrow.Author.Needs.{needs}
-use Rattle.posting.proofs.times.Statement.{statement}
-use Rattle.posting.proofs.times.Tie as tie
+use Rattle.posting.proofs.post_times.Statement.{statement}
+use Rattle.posting.proofs.post_times.Tie as tie
 
 abbrev Inv-loop : tie.InvT-loop
 Inv-loop mark n out₀ i₀ out i = i ≤ n
@@ -29,7 +29,7 @@ loop-again c = search needs
 returns : tie.Need-returns Inv-loop μ-loop
 returns c = search needs
 
-pub times-spec : {M : Type 1} → statement M
-times-spec =
+pub post-times-spec : {M : Type 1} → statement M
+post-times-spec =
     tie.close
     (tie.spec Inv-loop μ-loop loop-holds post-into-requires add-i loop-less loop-again returns)

@@ -1,11 +1,11 @@
--- `posting::column` is safe: the part of the cell that it writes has as many columns as were asked for.
+-- `posting::write_column` is safe: the part of the cell that it writes has as many columns as were asked for.
 -- Assumes nothing.
 use mathlib.Core.Path.{sym}
 use native.Mathlib.Omega.{arith}
 use lib.Seq.{length-take-le}
 use borrow.Author.Needs.{needs}
-use Rattle.posting.proofs.column.Statement.{statement}
-use Rattle.posting.proofs.column.Tie as tie
+use Rattle.posting.proofs.write_column.Statement.{statement}
+use Rattle.posting.proofs.write_column.Tie as tie
 
 returns : tie.Need-returns
 returns c = search needs
@@ -25,8 +25,8 @@ write-text-requires c κs = search needs
 returns-2 : tie.Need-returns-2
 returns-2 c = search needs
 
-pub column-spec : {M : Type 1} → statement M
-column-spec =
+pub write-column-spec : {M : Type 1} → statement M
+write-column-spec =
     tie.close
     (tie.spec
     returns
