@@ -18,7 +18,7 @@ use Rattle.rates.proofs.Laws.{rate-most, lump-none, lump-most}
 use Rattle.terms.specs.declared.Terms.{Terms}
 use Rattle.terms.specs.Rate.{rateFor, tableRate}
 use Rattle.terms.specs.Rules.{wrongOption, wrongPensionAge, wrongTerm, wrongAmount, aboveCap, refusalOf}
-use Rattle.terms.proofs.Laws.{terms-rules-pass, price-rules-pass, none-refuses, monthly-rate, lower-rate, upper-rate}
+use Rattle.terms.proofs.Laws.{terms-rules-pass, price-rules-pass, none-refuses, monthly-rate, lower-rate-some, upper-rate-some}
 use Rattle.election.specs.Price.{contributionAt, contributionIn, contributionOf}
 use Rattle.election.specs.LookedUp.{upperRate}
 use Rattle.election.specs.TermsAccepted.{PensionAgeIn, TermsAccepted}
@@ -54,8 +54,8 @@ terms-accepted t existing e =
       option-high = option .1;
       pension-age = pension-age-in t (terms .pension-age);
       term-high = ltb-false _ _ (terms .term);
-      lower-rate = lower-rate t (price .rate);
-      upper-rate = upper-rate t (price .rate) (price .upper);
+      lower-rate = lower-rate-some t (price .rate);
+      upper-rate = upper-rate-some t (price .rate) (price .upper);
       amount-low = ltb-false _ _ (amount .0);
       whole = omega arith;
       under-cap = ltb-false _ _ (price .cap);

@@ -1,5 +1,5 @@
 // The rates that the terms of an election go by, the first rule that refuses them, and what they cost. A caller asks for these in this
-// order; `rates_of`, `first_refusal` and `cost` are small enough to be inlined there. `rate_at` is not, so it takes fields of the terms.
+// order; `rates_of`, `refusal_of` and `cost` are small enough to be inlined there. `rate_at` is not, so it takes fields of the terms.
 ghost use mathlib.Core.Path.{_≡_};
 ghost use Prim.Native.Nat.{_≤_};
 ghost use Rattle.scheme.specs.Scheme.{capPounds};
@@ -107,7 +107,7 @@ fn price_refusal(t: Terms, rates: TableRates, existing: PensionPence) -> u32
 }
 
 // The first of the rules 1 to 8 that refuses terms with these rates, else 0.
-pub fn first_refusal(t: Terms, rates: TableRates, existing: PensionPence) -> u32
+pub fn refusal_of(t: Terms, rates: TableRates, existing: PensionPence) -> u32
     requires { ⌜ rates ≡ ratesOf t ⌝ }
     ensures { λ r. ⌜ r ≡ refusalOf t (existing .0) ⌝ }
 {

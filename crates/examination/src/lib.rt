@@ -37,7 +37,7 @@ pub fn examine(t: Terms, marks: &[u8]) -> Examined
     ensures { λ r. ⌜ r ≡ examinedOf t (now (marks .entry)) ⌝ }
 {
     let rates = election::rates_of(t);
-    let refusal = election::first_refusal(t, rates, PensionPence::none());
+    let refusal = election::refusal_of(t, rates, PensionPence::none());
     if refusal != 0 {
         return refused_examination(refusal, 0);
     }

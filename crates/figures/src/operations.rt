@@ -35,7 +35,7 @@ fn narrow_at(row: &[u64], column: usize) -> u32 {
 }
 
 // The first seven columns.
-fn terms_in(row: &[u64]) -> Terms {
+fn row_terms(row: &[u64]) -> Terms {
     Terms {
         age: narrow_at(row, 0),
         pnpa_years: narrow_at(row, 1),
@@ -48,7 +48,7 @@ fn terms_in(row: &[u64]) -> Terms {
 }
 
 // Columns 7 to 14: four runs of marks.
-fn marks_in(row: &[u64]) -> Elapsed
+fn row_marks(row: &[u64]) -> Elapsed
     ensures { λ r. ⌜ elapsedMarks r ≡ rowMarks (now (row .entry)) ⌝ }
 {
     let first = elapsed::then(elapsed::none(), at(row, 7), at(row, 8));
@@ -98,7 +98,7 @@ fn quote_numbers(quoted: Quoted) -> [u64; 6] {
 fn print_quote(row: &[u64]) {
     let existing = PensionPence(at(row, 7));
     let last = narrow_at(row, 8);
-    let answer = quote_numbers(quotes::quote(terms_in(row), existing, Register { last }));
+    let answer = quote_numbers(quotes::quote(row_terms(row), existing, Register { last }));
     line::write_line(
         b"quote* is refusal# contribution# number# register#",
         row,
@@ -107,9 +107,9 @@ fn print_quote(row: &[u64]) {
 }
 
 fn print_settle(row: &[u64]) {
-    let months = marks_in(row);
+    let months = row_marks(row);
     let all = months.marks;
-    let answer = settlement::settle(terms_in(row), elapsed::first(&all, months.count));
+    let answer = settlement::settle(row_terms(row), elapsed::first(&all, months.count));
     let n = settlement::six_numbers_of(answer);
     line::write_line(
         b"settle* is refusal# place# contribution# status# credit# refund#",
@@ -127,7 +127,7 @@ fn print_settle(row: &[u64]) {
 
 // Schedule with the list that is lent.
 fn schedule_into(row: &[u64], months: &[u8], list: &mut [u32]) {
-    let answer = schedule::schedule(terms_in(row), months, list);
+    let answer = schedule::schedule(row_terms(row), months, list);
     line::write_line(
         b"schedule* is refusal# place# entries",
         row,
@@ -139,7 +139,7 @@ fn schedule_into(row: &[u64], months: &[u8], list: &mut [u32]) {
 // Each entry of the lent list holds 7 before the call, and the whole list is printed after it. A row that asks for more than 20
 // entries prints nothing.
 fn print_schedule(row: &[u64]) {
-    let months = marks_in(row);
+    let months = row_marks(row);
     let all = months.marks;
     let entries = at(row, 15) as usize;
     let mut list = [7u32; 20];
@@ -166,10 +166,10 @@ fn pay_off_numbers(answer: PayOff) -> [u64; 6] {
 }
 
 fn print_pay_off(row: &[u64]) {
-    let months = marks_in(row);
+    let months = row_marks(row);
     let all = months.marks;
     let elapsed = elapsed::first(&all, months.count);
-    let answer = pay_off::pay_off(terms_in(row), elapsed, narrow_at(row, 15), narrow_at(row, 16));
+    let answer = pay_off::pay_off(row_terms(row), elapsed, narrow_at(row, 15), narrow_at(row, 16));
     line::write_line(
         b"pay-off* is refusal# place# remaining# increased# cost#",
         row,

@@ -74,11 +74,11 @@ module _ (openMonths : ℕ) where
 
   -- all marks
 
-  pub data Outcome (ms : List ℕ) : Type 0 where
+  pub data ReadOutcome (ms : List ℕ) : Type 0 where
     all-lawful : Lawful openMonths ms → firstRefusal openMonths [] ms ≡ refusing 0 0
-        → readingOf openMonths ms ≡ countsOf openMonths ms → Outcome ms
+        → readingOf openMonths ms ≡ countsOf openMonths ms → ReadOutcome ms
     one-bad : (n i : ℕ) → firstRefusal openMonths [] ms ≡ refusing n i → readingOf openMonths ms ≡ refusedOf n i
-        → FirstBad openMonths ms n i → Outcome ms
+        → FirstBad openMonths ms n i → ReadOutcome ms
 
   -- the number of a bad mark is one
   pub bad-number : (ms : List ℕ) (n i : ℕ) → FirstBad openMonths ms n i → 0 < n
@@ -93,10 +93,10 @@ module _ (openMonths : ℕ) where
   refusal-stays ms n i m b e =
       refusal-on [] ms m ∙ rw (e, ne-eqb n 0 (λ z. omega (arith, bad-number ms n i b)))
 
-  mark-more : (ms : List ℕ) (m : ℕ) → Outcome ms → Outcome (ms ++ (m ∷ []))
+  mark-more : (ms : List ℕ) (m : ℕ) → ReadOutcome ms → ReadOutcome (ms ++ (m ∷ []))
   mark-more ms m (all-lawful h f e) = go (next ms m)
     where
-      go : Next ms m → Outcome (ms ++ (m ∷ []))
+      go : Next ms m → ReadOutcome (ms ++ (m ∷ []))
       go (goes-on g z s) =
           all-lawful (follows-lawful openMonths ms m h g) (refusal-last ms m f ∙ rw z) (reading-last openMonths ms m ∙ rw e s)
       go (is-bad n z s wrong w) =
@@ -118,6 +118,6 @@ module _ (openMonths : ℕ) where
         number = rw (List·getD-append ms (m ∷ []) 0 i (b .inside)) (b .number);
       })
 
-  pub outcome : (ms : List ℕ) → Outcome ms
+  pub read-outcome : (ms : List ℕ) → ReadOutcome ms
   unfolding readOn lastOr paidMonths paidThrough finalGap firstRefusal
-  outcome ms = by-the-last Outcome mark-more (all-lawful (none-lawful openMonths) refl refl) ms
+  read-outcome ms = by-the-last ReadOutcome mark-more (all-lawful (none-lawful openMonths) refl refl) ms

@@ -44,7 +44,7 @@ pub fn quote(t: Terms, existing: PensionPence, register: Register) -> Quoted
     ensures refused { λ r. ⌜ quoteIsRefused (r .answer) ≡ ltb 0 (quoteOf t (existing .0) (register .last) .refusal) ⌝ }
 {
     let rates = election::rates_of(t);
-    let refusal = election::first_refusal(t, rates, existing);
+    let refusal = election::refusal_of(t, rates, existing);
     if refusal != 0 {
         return refused_quote(refusal, register);
     }

@@ -44,13 +44,13 @@ rate-rises = any-rises firstAge printMargin mostMonthlyRate tableOf tables-passi
 
 -- the print rule of Table S, both ways
 pub lump-printed : (o p age : ℕ) → 0 < lumpRateOf o p age → LumpPrinted o p age
-lump-printed = lump.lump-printed
+lump-printed = lump.printed-lump
 
 pub lump-shown : (o p age : ℕ) → LumpPrinted o p age → 0 < lumpRateOf o p age
 lump-shown o p age r = omega (arith, lump.lump-rules o p age r .above)
 
 pub lump-none : (o p age : ℕ) → (LumpPrinted o p age → ⊥) → lumpRateOf o p age ≡ 0
-lump-none = lump.lump-none
+lump-none = lump.no-lump
 
 -- the greatest lump sum is £4,560, for option 2 at age 64
 pub lump-most : (o p age : ℕ) → lumpRateOf o p age ≤ mostLumpSumRate

@@ -45,9 +45,9 @@ has-column o k h =
     by-test (eqb o 1) (λ e. omega (arith, eqb-true o 1 e))
     (λ e. by-test (eqb o 2) (λ f. omega (arith, eqb-true o 2 f)) (λ f. absurd (omega (arith, rw (e, f) at h))))
 
-pub lump-printed : (o p age : ℕ) → 0 < lumpRateOf o p age → LumpPrinted o p age
+pub printed-lump : (o p age : ℕ) → 0 < lumpRateOf o p age → LumpPrinted o p age
 unfolding lumpRateOf
-lump-printed o p age h =
+printed-lump o p age h =
     let a = above-0 (ltb p 65) h in
     let b = above-0 (ltb 68 p) (a .1) in
     let c = above-0 (ltb age 16) (b .1) in
@@ -66,9 +66,9 @@ pub lump-chosen : {r option : ℕ} {column : List ℕ} (o p age : ℕ) → 65 �
 lump-chosen o p age p-low p-high low high eo ec e = e ∙ rw (ec, eo) (sym (lump-entry o p age p-low p-high low high))
 
 -- and 0 where none is printed
-pub lump-none : (o p age : ℕ) → (LumpPrinted o p age → ⊥) → lumpRateOf o p age ≡ 0
-lump-none o p age out =
-    by-test (ltb 0 (lumpRateOf o p age)) (λ e. absurd (out (lump-printed o p age (ltb-true 0 _ e))))
+pub no-lump : (o p age : ℕ) → (LumpPrinted o p age → ⊥) → lumpRateOf o p age ≡ 0
+no-lump o p age out =
+    by-test (ltb 0 (lumpRateOf o p age)) (λ e. absurd (out (printed-lump o p age (ltb-true 0 _ e))))
     (λ e. omega (arith, ltb-false 0 (lumpRateOf o p age) e))
 
 -- the rules of the lump sum for an option at a pension age and an age

@@ -50,7 +50,7 @@ abbrev pub tables-pass : (first margin most : ℕ) → (ℕ → ℕ → List ℕ
 tables-pass first margin most tables = all (λ o. all (λ p. table-passes first margin most (tables o p) p) 65 4) 1 2
 
 -- tables that pass, and no others; the first age is at most the last, and the margin leaves one
-pub record Passing (first margin most : ℕ) (tables : ℕ → ℕ → List ℕ) : Type 0 where
+pub record PassingTables (first margin most : ℕ) (tables : ℕ → ℕ → List ℕ) : Type 0 where
   pub pass : T (tables-pass first margin most tables)
   pub known-or-empty : (o p : ℕ) → Known o p ⊎ (tables o p ≡ [])
   pub some : first ≤ lastAge margin
@@ -73,7 +73,7 @@ pub record EntryRules (first margin most : ℕ) (tables : ℕ → ℕ → List �
   pub column : 0 < rateBy first margin tables o p (suc age) term
       → rateBy first margin tables o p age term ≤ rateBy first margin tables o p (suc age) term
 
-module _ (first margin most : ℕ) (tables : ℕ → ℕ → List ℕ) (good : Passing first margin most tables) where
+module _ (first margin most : ℕ) (tables : ℕ → ℕ → List ℕ) (good : PassingTables first margin most tables) where
   passed : (o p : ℕ) → Known o p → T (table-passes first margin most (tables o p) p)
   passed o p known =
       all-at (λ p. table-passes first margin most (tables o p) p) 65 4

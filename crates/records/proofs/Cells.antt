@@ -32,8 +32,8 @@ abbrev pub recordSize : ℕ
 recordSize = size K′.mir
 
 -- c is a record that memory can hold
-abbrev pub Held : Contract → Type 0
-Held c = Is K.the-row c (recordVal c ∷ [])
+abbrev pub RecordHeld : Contract → Type 0
+RecordHeld c = Is K.the-row c (recordVal c ∷ [])
 
 -- the marks as the logic's arrays hold them, and their cells
 abbrev same : List ℕ → List ℕ
@@ -54,7 +54,7 @@ array-length : (ms : List ℕ) (vs : List Val) → Is (Array u8 mostMarks) (same
 array-length ms vs p = sym (length-map ms (λ (m : ℕ). m)) ∙ p .1 .0 .1
 
 -- a record has room for the most marks
-pub marks-length : (c : Contract) → Held c → length (c .marks) ≡ mostMarks
+pub marks-length : (c : Contract) → RecordHeld c → length (c .marks) ≡ mostMarks
 marks-length c h = array-length (c .marks) _ (LL.owed K.the-type K′.the-laws c (recordVal c ∷ []) h .1 .0)
 
 -- a byte written among bytes leaves bytes
@@ -83,7 +83,7 @@ array-set ms vs i m l p =
     )
 
 -- the record with one mark and the count written is one that memory can hold
-pub with-mark-held : (c : Contract) (i m n : ℕ) → m < 2 ^ 8 → n < 2 ^ 64 → Held c → Held (withMark c i m n)
+pub with-mark-held : (c : Contract) (i m n : ℕ) → m < 2 ^ 8 → n < 2 ^ 64 → RecordHeld c → RecordHeld (withMark c i m n)
 with-mark-held c i m n m-fits n-fits h =
     let was = LL.owed K.the-type K′.the-laws c (recordVal c ∷ []) h in
     LL.owes K.the-type K′.the-laws (withMark c i m n)

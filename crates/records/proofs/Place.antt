@@ -43,8 +43,8 @@ last-bad o ms m n i lawful bad =
     (subst (Lawful o) (sym (take-before ms m (suc i) (omega (arith, ltb-true i (length ms) t)))) (lawful-take o ms (suc i) lawful))))
     (λ t. omega (arith, ltb-false i (length ms) t, bad .inside, length-last ms m))
 
--- document 01's words on the place
-abbrev pub placed : Contract → Posted → ℕ
+-- the count for these two refusals
+abbrev placed : Contract → Posted → ℕ
 placed c p = pick (eqb (p .refusal) 11 || eqb (p .refusal) 12) (c .count) 0
 
 module _ (c : Contract) (m : ℕ) (full : length (c .marks) ≡ mostMarks) where
@@ -60,7 +60,7 @@ module _ (c : Contract) (m : ℕ) (full : length (c .marks) ≡ mostMarks) where
       go (inl h) = rw (h .0)
       go (inr h) = rw (h .0)
 
-  pub posted-place : postOf c m .place ≡ placed c (postOf c m)
+  pub posted-place : postOf c m .place ≡ pick (eqb (postOf c m .refusal) 11 || eqb (postOf c m .refusal) 12) (c .count) 0
   posted-place = by-test (badRecord c) (λ b. rw (bad-answer c m b)) good
     where
       good : badRecord c ≡ false → postOf c m .place ≡ placed c (postOf c m)

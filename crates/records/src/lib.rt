@@ -112,7 +112,7 @@ fn answer(c: Contract, mark: u8) -> Posted
             place: 0,
         };
     }
-    let read = marks::step(
+    let read = marks::read_mark(
         marks::read_marks(&marks[..count], scheme::OPEN_MONTHS, term),
         mark,
     );

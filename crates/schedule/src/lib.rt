@@ -32,7 +32,7 @@ fn walk_on(w: Walk, lower: [u32; 21], upper: [u32; 21], mark: u8, i: usize) -> W
     let before = w.reading;
     let only = w.lower;
     let other = w.upper;
-    let reading = marks::step(before, mark);
+    let reading = marks::read_mark(before, mark);
     let next = credit::after_mark(only, lower, mark);
     let next_upper = credit::after_mark(other, upper, mark);
     Walk {

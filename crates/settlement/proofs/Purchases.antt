@@ -50,12 +50,12 @@ module _ (t : Terms) (a : TermsAccepted t 0) (monthly : 0 < t .term) where
 
   -- what `year_credits` asks of the rates that the terms go by
   module _ {rates : TableRates} (are : rates ≡ ratesOf t) where
-    pub lower-asked : (rates .lower ≡ rateOf (t .option) (t .«pnpa_years») (t .age) (t .term)) × ((0 < rates .lower) × (poundsInPence (t .amount) < 2 ^ 32))
-    lower-asked = rw are (monthly-rate t (t .«pnpa_years») monthly, (a .lower-rate, amount-fits))
+    pub lower-rate-asked : (rates .lower ≡ rateOf (t .option) (t .«pnpa_years») (t .age) (t .term)) × ((0 < rates .lower) × (poundsInPence (t .amount) < 2 ^ 32))
+    lower-rate-asked = rw are (monthly-rate t (t .«pnpa_years») monthly, (a .lower-rate, amount-fits))
 
-    pub upper-asked : (t .«pnpa_months» ≡ 0 → ⊥)
+    pub upper-rate-asked : (t .«pnpa_months» ≡ 0 → ⊥)
         → (rates .upper ≡ rateOf (t .option) (t .«pnpa_years» + 1) (t .age) (t .term)) × ((0 < rates .upper) × (poundsInPence (t .amount) < 2 ^ 32))
-    upper-asked odd =
+    upper-rate-asked odd =
         rw (are, upper-rate-odd t odd) (monthly-rate t (t .«pnpa_years» + 1) monthly, (a .upper-rate odd, amount-fits))
 
   -- what the marks of at most the longest term earn in a table of which no year passes the amount fits 32 bits

@@ -104,14 +104,14 @@ pub upper-there : (t : Terms) (upper : ℕ) → missingUpper t upper ≡ false �
 upper-there t upper e odd = omega (arith, eqb-false upper 0 (rw (ne-eqb (t .«pnpa_months») 0 odd) at e))
 
 module _ (t : Terms) (rate : noRate t ≡ false) where
-  pub lower-rate : 0 < tableRate t (t .«pnpa_years»)
+  pub lower-rate-some : 0 < tableRate t (t .«pnpa_years»)
   unfolding noRate
-  lower-rate =
+  lower-rate-some =
       by-test (eqb (t .term) 0) (λ e. omega (arith, eqb-false (tableRate t (t .«pnpa_years»)) 0 (or-false _ _ (rw e at rate) .0)))
       (λ e. omega (arith, eqb-false (tableRate t (t .«pnpa_years»)) 0 (rw e at rate)))
 
-  pub upper-rate : noUpperRate t ≡ false → (t .«pnpa_months» ≡ 0 → ⊥) → 0 < tableRate t (t .«pnpa_years» + 1)
+  pub upper-rate-some : noUpperRate t ≡ false → (t .«pnpa_months» ≡ 0 → ⊥) → 0 < tableRate t (t .«pnpa_years» + 1)
   unfolding noRate noUpperRate
-  upper-rate upper =
+  upper-rate-some upper =
       by-test (eqb (t .term) 0) (λ e. upper-there t (tableRate t (t .«pnpa_years» + 1)) (or-false (eqb (tableRate t (t .«pnpa_years»)) 0) _ (rw e at rate) .1))
       (λ e. upper-there t (tableRate t (t .«pnpa_years» + 1)) (rw e at upper))

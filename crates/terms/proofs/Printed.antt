@@ -16,7 +16,7 @@ use Rattle.terms.specs.Rate.{tableRate}
 use Rattle.terms.specs.Rules.{missingUpper, noRate, noUpperRate, wrongAmount, aboveCap, refusalOf}
 use Rattle.terms.specs.Halves.{priceRefusal}
 use Rattle.terms.specs.Printed.{LumpThere, MonthlyThere, LacksRate, LacksUpperRate, FirstFourPass, RatesTold}
-use Rattle.terms.proofs.Laws.{first-four-pass, price-decides, lump-rate, monthly-rate, lower-rate}
+use Rattle.terms.proofs.Laws.{first-four-pass, price-decides, lump-rate, monthly-rate, lower-rate-some}
 
 -- a number that cannot be above 0 is 0
 not-above : (n : ℕ) → (0 < n → ⊥) → n ≡ 0
@@ -91,7 +91,7 @@ module _ (t : Terms) where
       (λ monthly.
       let m : 0 < t .term = omega (arith, eqb-false (t .term) 0 monthly) in
       let u = upper-missing t _ (rw monthly at e) in
-      let lower = rate-printed (t .option) (t .«pnpa_years») (t .age) (t .term) (rw (monthly-rate t (t .«pnpa_years») m) at (lower-rate t rate)) in
+      let lower = rate-printed (t .option) (t .«pnpa_years») (t .age) (t .term) (rw (monthly-rate t (t .«pnpa_years») m) at (lower-rate-some t rate)) in
       (m, (lower, (u .0, zero-monthly t (t .«pnpa_years» + 1) m (u .1)))))
 
   says-lower : LacksUpperRate t → noRate t ≡ false

@@ -37,9 +37,9 @@ module _ (l : List ℕ) (i : ℕ) where
   unfolding fieldOf
   space-more h e = rw (drop-cons l i 0, add-one, eq-eqb (getD l i 0) 32 e)
 
-  pub blank : length l ≤ i → fieldOf (drop i l) ≡ NoNumber
+  pub blank-field : length l ≤ i → fieldOf (drop i l) ≡ NoNumber
   unfolding fieldOf
-  blank h = rw (drop-of-length-le l h)
+  blank-field h = rw (drop-of-length-le l h)
 
   pub zero-alone : i < length l → (getD l i 0 ≡ 32 → ⊥) → getD l i 0 ≡ 48 → length l ≤ i + 1 → fieldOf (drop i l) ≡ Number 0
   unfolding fieldOf zeroOf

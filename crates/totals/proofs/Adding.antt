@@ -20,8 +20,8 @@ use Rattle.totals.specs.Total.{mostRecords, creditSum, anyBad, firstBadR
 use Rattle.totals.specs.Tally.{openingOf, addOf}
 
 -- what stands past the end of a list of records
-abbrev pub blank : Contract
-blank =
+abbrev pub blankRecord : Contract
+blankRecord =
     record {
       terms = record { age = 0; «pnpa_years» = 0; «pnpa_months» = 0; option = 0; payer = 0; term = 0; amount = 0 };
       marks = replicate mostMarks 0;
@@ -29,7 +29,7 @@ blank =
     }
 
 abbrev at : List Contract → ℕ → Contract
-at cs i = getD cs i blank
+at cs i = getD cs i blankRecord
 
 sum-more : (cs : List Contract) (i : ℕ) → i < length cs
     → creditSum (take (suc i) cs) ≡ creditSum (take i cs) + settledRecord (at cs i) .credit

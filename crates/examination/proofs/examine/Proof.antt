@@ -61,9 +61,9 @@ whole t ms pass cost are read none s =
     let status = s ∙ ap (statusFrom (t .term)) read ∙ status-lawful openMonths (t .term) ms law in
     rw (status, read, marks-counts openMonths (t .term) ms law, cost, are, examined-accepted t ms zero-refusal)
 
-refusal-is : (c : tie.After-first-refusal)
-    → c .first-refusal .result ≡ refusalOf (c .before .before .before .before .args .t) 0
-refusal-is c = told _ (c .first-refusal .ensures) (c .before .none .ensures)
+refusal-is : (c : tie.After-refusal-of)
+    → c .refusal-of .result ≡ refusalOf (c .before .before .before .before .args .t) 0
+refusal-is c = told _ (c .refusal-of .ensures) (c .before .none .ensures)
 
 rates-of-requires : tie.Need-rates-of-requires
 rates-of-requires c κs = search needs
@@ -71,8 +71,8 @@ rates-of-requires c κs = search needs
 none-requires : tie.Need-none-requires
 none-requires c κs = search needs
 
-first-refusal-requires : tie.Need-first-refusal-requires
-first-refusal-requires c κs = c .before .rates-of .ensures
+refusal-of-requires : tie.Need-refusal-of-requires
+refusal-of-requires c κs = c .before .rates-of .ensures
 
 refused-examination-requires : tie.Need-refused-examination-requires
 refused-examination-requires c κs = search needs
@@ -112,7 +112,7 @@ examine-spec =
     (tie.spec
     rates-of-requires
     none-requires
-    first-refusal-requires
+    refusal-of-requires
     refused-examination-requires
     returns
     read-marks-requires

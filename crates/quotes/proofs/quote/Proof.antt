@@ -54,15 +54,15 @@ refuses n register e some = rw (e, lt-ltb 0 n (omega (arith, some)))
 rates-of-requires : tie.Need-rates-of-requires
 rates-of-requires c κs = search needs
 
-first-refusal-requires : tie.Need-first-refusal-requires
-first-refusal-requires c κs = c .rates-of .ensures
+refusal-of-requires : tie.Need-refusal-of-requires
+refusal-of-requires c κs = c .rates-of .ensures
 
 refused-quote-requires : tie.Need-refused-quote-requires
 refused-quote-requires c κs = search needs
 
 returns : tie.Need-returns
 returns c =
-    let first = c .before .before .first-refusal .ensures in
+    let first = c .before .before .refusal-of .ensures in
     let some = c .before .if1 .taken in
     let is = ap numbersOfQuote (c .refused-quote .ensures) ∙ refused _ _ _ _ (first ∙ sym (by-terms _ _ _ (λ z. some (first ∙ z)))) some in
     (is, refuses _ _ (c .refused-quote .ensures) some ∙ ap some-refusal is)
@@ -73,14 +73,14 @@ refused-quote-requires-2 c κs = search needs
 returns-2 : tie.Need-returns-2
 returns-2 c =
     let b = c .before .before .before in
-    let pass = sym (b .before .first-refusal .ensures) ∙ b .if1 .left in
+    let pass = sym (b .before .refusal-of .ensures) ∙ b .if1 .left in
     let is = ap numbersOfQuote (c .refused-quote2 .ensures) ∙ refused _ _ _ _ (sym (register-full _ _ _ pass (c .before .if2 .taken))) (λ z. omega arith) in
     (is, refuses _ _ (c .refused-quote2 .ensures) (λ z. omega arith) ∙ ap some-refusal is)
 
 cost-requires : tie.Need-cost-requires
 cost-requires c κs =
     let b = c .before .before in
-    let pass = sym (b .before .first-refusal .ensures) ∙ b .if1 .left in
+    let pass = sym (b .before .refusal-of .ensures) ∙ b .if1 .left in
     (omega (arith, terms-accepted _ _ pass .under-cap), b .before .before .rates-of .ensures)
 
 add-number : tie.Need-add-number
@@ -89,7 +89,7 @@ add-number c = search needs
 returns-3 : tie.Need-returns-3
 returns-3 c =
     let b = c .before .before .before .before in
-    let pass = sym (b .before .first-refusal .ensures) ∙ b .if1 .left in
+    let pass = sym (b .before .refusal-of .ensures) ∙ b .if1 .left in
     let is = made _ _ _ _ (ap (λ (k : ContributionPence). k .0) (c .before .cost .ensures)) (open-register _ _ _ pass (c .before .before .if2 .left)) in
     (is, ap some-refusal is)
 
@@ -98,7 +98,7 @@ quote-spec =
     tie.close
     (tie.spec
     rates-of-requires
-    first-refusal-requires
+    refusal-of-requires
     refused-quote-requires
     returns
     refused-quote-requires-2

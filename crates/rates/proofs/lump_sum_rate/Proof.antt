@@ -4,21 +4,21 @@ use mathlib.Core.Path.{sym}
 use native.Mathlib.Omega.{arith}
 use borrow.Author.Needs.{needs}
 use Rattle.rates.specs.Rates.{lumpColumn}
-use Rattle.rates.proofs.LumpSum.{lump-chosen, lump-none}
+use Rattle.rates.proofs.LumpSum.{lump-chosen, no-lump}
 use Rattle.rates.proofs.lump_sum_rate.Statement.{statement}
 use Rattle.rates.proofs.lump_sum_rate.Tie as tie
 
 returns : tie.Need-returns
-returns c = sym (lump-none _ _ _ (λ r. omega arith))
+returns c = sym (no-lump _ _ _ (λ r. omega arith))
 
 returns-2 : tie.Need-returns-2
-returns-2 c = sym (lump-none _ _ _ (λ r. omega arith))
+returns-2 c = sym (no-lump _ _ _ (λ r. omega arith))
 
 returns-3 : tie.Need-returns-3
-returns-3 c = sym (lump-none _ _ _ (λ r. omega arith))
+returns-3 c = sym (no-lump _ _ _ (λ r. omega arith))
 
 returns-4 : tie.Need-returns-4
-returns-4 c = sym (lump-none _ _ _ (λ r. omega arith))
+returns-4 c = sym (no-lump _ _ _ (λ r. omega arith))
 
 personal-lump-sums-requires : tie.Need-personal-lump-sums-requires
 personal-lump-sums-requires c κs = search needs
@@ -45,7 +45,7 @@ returns-6 c =
     lump-chosen 2 _ _ (omega arith) (omega arith) (omega arith) (omega arith) (b .before .match .keys2) (b .dependant-lump-sums .ensures) (c .lump-column2 .ensures)
 
 returns-7 : tie.Need-returns-7
-returns-7 c = sym (lump-none _ _ _ (λ r. omega arith))
+returns-7 c = sym (no-lump _ _ _ (λ r. omega arith))
 
 pub lump-sum-rate-spec : {M : Type 1} → statement M
 lump-sum-rate-spec =

@@ -50,8 +50,8 @@ slice-aggregate-read-marks c =
 read-marks-requires : tie.Need-read-marks-requires
 read-marks-requires c κs = search needs
 
-step-requires : tie.Need-step-requires
-step-requires c κs = search needs
+read-mark-requires : tie.Need-read-mark-requires
+read-mark-requires c κs = search needs
 
 returns-3 : tie.Need-returns-3
 returns-3 c =
@@ -59,7 +59,7 @@ returns-3 c =
     let start = d .before .before in
     read-answer (start .args .c) (start .args .mark) (marks-length (start .args .c) (start .good .0))
     (check-says _ (d .before .check-record .ensures) (d .if1 .left)) (c .before .before .before .if2 .left) _
-    (c .step .ensures ∙ ap (λ (r : Reading). stepBy countUp r (start .args .mark)) (c .before .read-marks .ensures))
+    (c .read-mark .ensures ∙ ap (λ (r : Reading). stepBy countUp r (start .args .mark)) (c .before .read-marks .ensures))
 
 pub answer-spec : {M : Type 1} → statement M
 answer-spec =
@@ -74,5 +74,5 @@ answer-spec =
     array-share-prefix-marks
     slice-aggregate-read-marks
     read-marks-requires
-    step-requires
+    read-mark-requires
     returns-3)

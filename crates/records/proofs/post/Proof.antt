@@ -52,7 +52,7 @@ use Rattle.records.specs.declared.Decision.{Decision}
 use Rattle.records.specs.declared.Posted.{Posted}
 use Rattle.records.specs.Post.{withMark}
 use Rattle.records.specs.Decision.{Decided}
-use Rattle.records.proofs.Cells.{recordVal, Held, cellsOf, cells-set, cells-length, marks-length, termsSize, with-mark-held}
+use Rattle.records.proofs.Cells.{recordVal, RecordHeld, cellsOf, cells-set, cells-length, marks-length, termsSize, with-mark-held}
 use Rattle.records.proofs.Element.{element}
 use Rattle.records.proofs.Contract as K
 use Rattle.records.proofs.Contract.Laws as K′
@@ -145,7 +145,7 @@ module _ {M : Type 1} (𝓤 : URA M) (H : Heap 𝓤) (A : Atoms 𝓤) (W : Given
   abbrev to-decide : Decide 𝓤 H A at-mem run .Ghost
   to-decide = ((tt, tt, tt, (c, (m, tt)), (recordVal c ∷ [], (vint w8 m ∷ [], tt))), tt)
 
-  goes : Held c → ent 𝓤 (emp 𝓤) (Decide 𝓤 H A at-mem run .pre to-decide)
+  goes : RecordHeld c → ent 𝓤 (emp 𝓤) (Decide 𝓤 H A at-mem run .pre to-decide)
   goes held =
       qed W [] ∵
       nothing ! $
@@ -256,10 +256,10 @@ module _ {M : Type 1} (𝓤 : URA M) (H : Heap 𝓤) (A : Atoms 𝓤) (W : Given
         keep ! (0 ∷ 1 ∷ 2 ∷ []) $
         by ! (exits n d (posted-is n _ is))))))))))))))))
       where
-        cells : Held c → length (cellsOf (c .marks)) ≡ mostMarks
+        cells : RecordHeld c → length (cellsOf (c .marks)) ≡ mostMarks
         cells held = cells-length (c .marks) ∙ marks-length c held
 
-        inside : Held c → {n : Decision} → Decided c m n → n .at < length (cellsOf (c .marks))
+        inside : RecordHeld c → {n : Decision} → Decided c m n → n .at < length (cellsOf (c .marks))
         inside held {n} d = subst (λ (k : ℕ). n .at < k) (sym (cells held)) (d .inside)
 
 module _ {M : Type 1} (𝓤 : URA M) (H : Heap 𝓤) (A : Atoms 𝓤) (W : Given 𝓤 H A) (at-mem : Memory → SProp 𝓤) (run : Routine → Fun 𝓤) where

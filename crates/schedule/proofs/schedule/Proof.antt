@@ -12,7 +12,7 @@ use Rattle.terms.specs.declared.Terms.{Terms}
 use Rattle.schedule.specs.Schedule.{ScheduleNumbers, filledOf, scheduleOf}
 use Rattle.settlement.specs.Settle.{settleOf}
 use Rattle.settlement.proofs.Laws.{settle-refused, settle-refusal}
-use Rattle.settlement.proofs.Purchases.{lower-asked}
+use Rattle.settlement.proofs.Purchases.{lower-rate-asked}
 use Rattle.examination.proofs.Examination.{examined-told, examined-none, examined-monthly}
 use Rattle.examination.proofs.Laws.{settled-marks, examined-refused}
 use Rattle.examination.specs.Refusal.{settleRefusal}
@@ -76,7 +76,7 @@ monthly-here c = monthly-terms _ _ (c .before .before .before .before .examine .
 year-credits-requires : tie.Need-year-credits-requires
 year-credits-requires c κs =
     let m = monthly-here (c .before) in
-    lower-asked _ (m .passes) (m .some-years) (m .rates-are)
+    lower-rate-asked _ (m .passes) (m .some-years) (m .rates-are)
 
 upper-years-requires : tie.Need-upper-years-requires
 upper-years-requires c κs =

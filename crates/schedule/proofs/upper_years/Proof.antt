@@ -1,7 +1,7 @@
 -- `schedule::upper_years` meets its contract: with odd months the upper rate is that of the upper table.
 -- Assumes nothing.
 use native.Mathlib.Omega.{arith}
-use Rattle.settlement.proofs.Purchases.{upper-asked}
+use Rattle.settlement.proofs.Purchases.{upper-rate-asked}
 use Rattle.schedule.proofs.upper_years.Statement.{statement}
 use Rattle.schedule.proofs.upper_years.Tie as tie
 
@@ -14,7 +14,7 @@ add-year-credits c = omega (arith, c .before .before .before .pre .monthly .pass
 year-credits-requires : tie.Need-year-credits-requires
 year-credits-requires c κs =
     let m = c .before .before .before .pre .monthly in
-    upper-asked _ (m .passes) (m .some-years) (m .rates-are) (c .before .if1 .left)
+    upper-rate-asked _ (m .passes) (m .some-years) (m .rates-are) (c .before .if1 .left)
 
 returns-2 : tie.Need-returns-2
 returns-2 c =

@@ -5,8 +5,8 @@ use borrow.Author.Needs.{needs}
 use Rattle.schedule.proofs.walk_on.Statement.{statement}
 use Rattle.schedule.proofs.walk_on.Tie as tie
 
-step-requires : tie.Need-step-requires
-step-requires c κs = search needs
+read-mark-requires : tie.Need-read-mark-requires
+read-mark-requires c κs = search needs
 
 after-mark-requires : tie.Need-after-mark-requires
 after-mark-requires c κs = record { few = omega arith; small = omega arith }
@@ -19,7 +19,7 @@ returns c =
     let l = c .before .after-mark .ensures in
     let u = c .after-mark2 .ensures in
     record {
-      is = rw (c .before .before .step .ensures, l .0, u .0);
+      is = rw (c .before .before .read-mark .ensures, l .0, u .0);
       within = record {
         lower-month = omega (arith, l .1 .0);
         lower-small = omega (arith, l .1 .0, l .1 .1);
@@ -29,4 +29,4 @@ returns c =
     }
 
 pub walk-on-spec : {M : Type 1} → statement M
-walk-on-spec = tie.close (tie.spec step-requires after-mark-requires after-mark-requires-2 returns)
+walk-on-spec = tie.close (tie.spec read-mark-requires after-mark-requires after-mark-requires-2 returns)

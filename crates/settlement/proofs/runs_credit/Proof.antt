@@ -17,7 +17,7 @@ use Rattle.money.specs.Money.{pension}
 use Rattle.money.specs.declared.PensionPence.{PensionPence}
 use Rattle.rounding.proofs.Laws.{combine-none}
 use Rattle.rounding.specs.Nearest.{nearest, combine}
-use Rattle.settlement.proofs.Purchases.{lower-asked, upper-asked, credit-fits, credit-combined}
+use Rattle.settlement.proofs.Purchases.{lower-rate-asked, upper-rate-asked, credit-fits, credit-combined}
 use Rattle.settlement.specs.Credit.{creditOf}
 use Rattle.settlement.proofs.runs_credit.Statement.{statement}
 use Rattle.settlement.proofs.runs_credit.Tie as tie
@@ -43,7 +43,7 @@ both t ms e f = rw (e, f) (ap pension (sym (credit-combined t ms)))
 year-credits-requires : tie.Need-year-credits-requires
 year-credits-requires c κs =
     let m = c .before .pre .0 in
-    lower-asked _ (m .passes) (m .some-years) (m .rates-are)
+    lower-rate-asked _ (m .passes) (m .some-years) (m .rates-are)
 
 credit-over-requires : tie.Need-credit-over-requires
 credit-over-requires c κs = search needs
@@ -61,7 +61,7 @@ add-year-credits c =
 year-credits-requires-2 : tie.Need-year-credits-requires-2
 year-credits-requires-2 c κs =
     let m = c .before .before .before .before .before .before .pre .0 in
-    upper-asked _ (m .passes) (m .some-years) (m .rates-are) (c .before .if1 .left)
+    upper-rate-asked _ (m .passes) (m .some-years) (m .rates-are) (c .before .if1 .left)
 
 credit-over-requires-2 : tie.Need-credit-over-requires-2
 credit-over-requires-2 c κs = search needs

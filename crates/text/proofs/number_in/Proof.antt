@@ -1,7 +1,7 @@
 -- `text::number_in` meets its contract: past the spaces it is a blank, a digit 0 or other digits.
 -- Assumes nothing.
 use mathlib.Core.Path.{sym, _∙_}
-use Rattle.text.proofs.Reading.{blank, zero-alone, zero-leads, digits-begin}
+use Rattle.text.proofs.Reading.{blank-field, zero-alone, zero-leads, digits-begin}
 use borrow.Author.Needs.{needs}
 use Rattle.text.proofs.number_in.Statement.{statement}
 use Rattle.text.proofs.number_in.Tie as tie
@@ -12,7 +12,7 @@ spaces-in-front-requires c κs = search needs
 returns : tie.Need-returns
 returns c =
     let s = c .before .spaces-in-front .ensures in
-    sym (s .skipped ∙ blank _ _ (c .if1 .taken))
+    sym (s .skipped ∙ blank-field _ _ (c .if1 .taken))
 
 shared-slice-read-if2 : tie.Need-shared-slice-read-if2
 shared-slice-read-if2 c = search needs

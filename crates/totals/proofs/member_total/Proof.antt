@@ -57,9 +57,9 @@ use Rattle.totals.specs.declared.Tally.{Tally}
 use Rattle.totals.specs.declared.Total.{Total}
 use Rattle.totals.specs.Total.{mostRecords, memberTotalOf}
 use Rattle.totals.specs.Tally.{openingOf, addOf}
-use Rattle.totals.proofs.Adding.{blank, Stands, stands-first, stands-inside, stands-bound, stands-last, stands-next}
+use Rattle.totals.proofs.Adding.{blankRecord, Stands, stands-first, stands-inside, stands-bound, stands-last, stands-next}
 use Rattle.totals.proofs.Values.{tallyVal, TallyHeld, totalVal, total-held}
-use Rattle.records.proofs.Cells.{recordVal, recordSize, Held}
+use Rattle.records.proofs.Cells.{recordVal, recordSize, RecordHeld}
 use Rattle.records.proofs.Contract as K
 use Rattle.records.proofs.Contract.Laws as K′
 use Rattle.totals.proofs.Tally as T
@@ -160,7 +160,7 @@ module _ {M : Type 1} (𝓤 : URA M) (H : Heap 𝓤) (A : Atoms 𝓤) (W : Given
   abbrev to-add : Tally → Contract → ℕ → Add 𝓤 H A at-mem run .Ghost
   to-add t c i = ((tt, tt, tt, (t, (c, (i, tt))), (tallyVal t ∷ [], (recordVal c ∷ [], (vint w64 i ∷ [], tt)))), tt)
 
-  goes-add : (t : Tally) (c : Contract) (i : ℕ) → t .total .credit .0 ≤ mostRecords * capPence → i < 2 ^ 64 → TallyHeld t → Held c
+  goes-add : (t : Tally) (c : Contract) (i : ℕ) → t .total .credit .0 ≤ mostRecords * capPence → i < 2 ^ 64 → TallyHeld t → RecordHeld c
       → ent 𝓤 (emp 𝓤) (Add 𝓤 H A at-mem run .pre (to-add t c i))
   goes-add t c i few i-fits is held =
       qed W [] ∵
@@ -241,11 +241,11 @@ module _ {M : Type 1} (𝓤 : URA M) (H : Heap 𝓤) (A : Atoms 𝓤) (W : Given
         assigns ! (bin ! (load ! (from ! (stop !)) (look ! 13 refl)) (lit ! tt) (record { fits = bytes })) (from ! (stop !)) (init ! 7 refl (tt, record { fits = bytes })) $
         assigns ! (bin ! (load ! (from ! (fld ! refl (stop !))) (look-in ! 17 (sub ! 0 refl (whole !)))) (load ! (from ! (stop !)) (look ! 7 refl)) tt) (from ! (stop !)) (init ! 5 refl (tt, tt)) $
         rewrite ! 5 (λ (p : ℕ). ‵ (fat fullShare tyPtr l₇ 0 (vptr b p))) (sym (place-is recordSize o (u .i))) refl $
-        elem-out ! K.the-row (Is K.the-row) (shows 𝓤 H A K.the-row) (LL.vals K.the-type K′.the-laws) (LL.tells K.the-type K′.the-laws) q′ cs (u .i) blank b o inside (λ held.
+        elem-out ! K.the-row (Is K.the-row) (shows 𝓤 H A K.the-row) (LL.vals K.the-type K′.the-laws) (LL.tells K.the-type K′.the-laws) q′ cs (u .i) blankRecord b o inside (λ held.
         -- [the record; what it owns; the others; what shuts; what the slice owns; _8; …; _7; …; _6; …; _5; …; _4; …]
         assigns ! (of-opd ! (load ! (from ! (hop ! (look ! 7 refl) (stop !))) (look-raw ! 0 refl))) (from ! (stop !))
         (init ! 5 refl (LL.lawful K.the-type K′.the-laws 𝓤 H A W .typed this _ held .0)) $
-        elem-back ! K.the-row q′ cs (u .i) blank (recordVal this ∷ []) b o inside $
+        elem-back ! K.the-row q′ cs (u .i) blankRecord (recordVal this ∷ []) b o inside $
         -- t = add(t, records[i], i)
         use0 W (raw (Add 𝓤 H A at-mem run .pre (to-add (u .t) this (u .i)))) (goes-add (u .t) this (u .i) few (u .fits) (u .held) held) $
         calls-at ! (fmOf 𝓤 H (W .laws) 𝓣) (Add 𝓤 H A at-mem run) known (to-add (u .t) this (u .i))
@@ -275,7 +275,7 @@ module _ {M : Type 1} (𝓤 : URA M) (H : Heap 𝓤) (A : Atoms 𝓤) (W : Given
         again ! (Nearer cs) At u (next r d (subst (Is T.the-row r) (LL.tells T.the-type T′.the-laws r _ is) is)) nearer)))))
       where
         this : Contract
-        this = getD cs (u .i) blank
+        this = getD cs (u .i) blankRecord
 
         below : u .i < u .t .end
         below = ltb-true _ _ e

@@ -7,8 +7,8 @@ use borrow.Author.Needs.{needs}
 use Rattle.figures.proofs.operations.print_schedule.Statement.{statement}
 use Rattle.figures.proofs.operations.print_schedule.Tie as tie
 
-marks-in-requires : tie.Need-marks-in-requires
-marks-in-requires c κs = search needs
+row-marks-requires : tie.Need-row-marks-requires
+row-marks-requires c κs = search needs
 
 at-requires : tie.Need-at-requires
 at-requires c κs = search needs
@@ -35,7 +35,7 @@ pub print-schedule-spec : {M : Type 1} → statement M
 print-schedule-spec =
     tie.close
     (tie.spec
-    marks-in-requires
+    row-marks-requires
     at-requires
     returns
     first-requires

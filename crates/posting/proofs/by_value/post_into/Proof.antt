@@ -46,7 +46,7 @@ use Rattle.records.specs.declared.Contract.{Contract}
 use Rattle.records.specs.declared.Posted.{Posted}
 use Rattle.posting.specs.declared.by_value.Outcome.{Outcome}
 use Rattle.records.specs.Post.{postOf, postedRecord}
-use Rattle.records.proofs.Cells.{recordVal, Held}
+use Rattle.records.proofs.Cells.{recordVal, RecordHeld}
 use Rattle.records.proofs.Contract as K
 use Rattle.records.proofs.Contract.Laws as K′
 use Rattle.records.proofs.Posted as P
@@ -76,7 +76,7 @@ Says c m r d = (r ≡ postOf c m) × (d ≡ postedRecord c m)
 abbrev both : Posted → Contract → Outcome
 both r d = record { posted = r; contract = d }
 
-both-is : (r : Posted) (w : Val) (d : Contract) → Is P.the-row r (w ∷ []) → Held d → Is O.the-row (both r d) (outcomeVal (both r d) ∷ [])
+both-is : (r : Posted) (w : Val) (d : Contract) → Is P.the-row r (w ∷ []) → RecordHeld d → Is O.the-row (both r d) (outcomeVal (both r d) ∷ [])
 both-is r w d is held =
     LL.owes O.the-type O′.the-laws (both r d) (subst (Is P.the-row r) (LL.tells P.the-type P′.the-laws r _ is) is, (held, tt))
 
@@ -84,7 +84,7 @@ abbrev PostTriple : {M : Type 1} (𝓤 : URA M) (H : Heap 𝓤) (A : Atoms 𝓤)
 PostTriple 𝓤 H A at-mem run = tripleOf 𝓤 H A post.signature (post.spec 𝓤 H A at-mem run)
 
 module _ {M : Type 1} (𝓤 : URA M) (H : Heap 𝓤) (A : Atoms 𝓤) (W : Given 𝓤 H A) (at-mem : Memory → SProp 𝓤) (run : Routine → Fun 𝓤)
-    (c : Contract) (m : ℕ) (held : Held c) (m-fits : m < 2 ^ 8) where
+    (c : Contract) (m : ℕ) (held : RecordHeld c) (m-fits : m < 2 ^ 8) where
   abbrev at : List Val × (List Val × Unit {0})
   at = (recordVal c ∷ [], (vint w8 m ∷ [], tt))
 
@@ -190,7 +190,7 @@ module _ {M : Type 1} (𝓤 : URA M) (H : Heap 𝓤) (A : Atoms 𝓤) (W : Given
         move ! (0 ∷ 4 ∷ 2 ∷ []) $
         use3 W (later (‵ (mem K.the-row .lies (zs .0) l₃ 0))) (ref-back 𝓤 H A W K.the-row (α ∷ []) γ (zs .0) l₃ 0) $
         await ! tt $
-        use1 W (given (Held (zs .0)) (‵ (fat fullShare K′.mir l₃ 0 (recordVal (zs .0))))) (local-out 𝓤 H A W K.the-row refl recordVal (zs .0) l₃ (LL.tells K.the-type K′.the-laws)) $
+        use1 W (given (RecordHeld (zs .0)) (‵ (fat fullShare K′.mir l₃ 0 (recordVal (zs .0))))) (local-out 𝓤 H A W K.the-row refl recordVal (zs .0) l₃ (LL.tells K.the-type K′.the-laws)) $
         learn ! (λ left.
         -- [_3; true; true; _6; …; _5; …; _4; …; that _3 dies; _2; …; _1; …; _0; …]
         assigns ! (of-opd ! (load ! (from ! (stop !)) (look ! 0 refl))) (from ! (stop !)) (init ! 3 refl (LL.lawful K.the-type K′.the-laws 𝓤 H A W .typed (zs .0) _ left .0)) $

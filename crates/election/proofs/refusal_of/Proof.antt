@@ -1,10 +1,10 @@
--- `election::first_refusal` meets its contract: the rules that need no rate, then those on the price.
+-- `election::refusal_of` meets its contract: the rules that need no rate, then those on the price.
 -- Assumes nothing.
 use mathlib.Core.Path.{sym, _∙_}
 use borrow.Author.Needs.{needs}
 use Rattle.terms.proofs.Laws.{terms-decide, price-decides}
-use Rattle.election.proofs.first_refusal.Statement.{statement}
-use Rattle.election.proofs.first_refusal.Tie as tie
+use Rattle.election.proofs.refusal_of.Statement.{statement}
+use Rattle.election.proofs.refusal_of.Tie as tie
 
 terms-refusal-requires : tie.Need-terms-refusal-requires
 terms-refusal-requires c κs = search needs
@@ -22,5 +22,5 @@ returns-2 c =
     let passed = c .before in
     c .price-refusal .ensures ∙ sym (price-decides _ _ (sym (passed .before .terms-refusal .ensures) ∙ passed .if1 .left))
 
-pub first-refusal-spec : {M : Type 1} → statement M
-first-refusal-spec = tie.close (tie.spec terms-refusal-requires returns price-refusal-requires returns-2)
+pub refusal-of-spec : {M : Type 1} → statement M
+refusal-of-spec = tie.close (tie.spec terms-refusal-requires returns price-refusal-requires returns-2)

@@ -1,9 +1,9 @@
--- `operations::marks_in` meets its contract.
+-- `operations::row_marks` meets its contract.
 -- Assumes nothing.
 use borrow.Author.Needs.{needs}
 use Rattle.figures.proofs.Runs.{run-renamed}
-use Rattle.figures.proofs.operations.marks_in.Statement.{statement}
-use Rattle.figures.proofs.operations.marks_in.Tie as tie
+use Rattle.figures.proofs.operations.row_marks.Statement.{statement}
+use Rattle.figures.proofs.operations.row_marks.Tie as tie
 
 none-requires : tie.Need-none-requires
 none-requires c κs = search needs
@@ -55,8 +55,8 @@ returns c =
     let after-three = run-renamed (three .then3 .ensures) after-two (three .before .before .at5 .ensures) (three .before .at6 .ensures) in
     run-renamed (c .then4 .ensures) after-three (c .before .before .at7 .ensures) (c .before .at8 .ensures)
 
-pub marks-in-spec : {M : Type 1} → statement M
-marks-in-spec =
+pub row-marks-spec : {M : Type 1} → statement M
+row-marks-spec =
     tie.close
     (tie.spec
     none-requires
