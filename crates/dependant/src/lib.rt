@@ -7,8 +7,8 @@ ghost use Rattle.rates.specs.Rates.{cellOf, rateOf};
 ghost use Rattle.lookup.specs.Narrow.{tenthsInPence};
 ghost use Rattle.lookup.specs.Tables.{tableInPence};
 use lookup::column;
-use lookup::tenths_in_pence;
 use lookup::no_term;
+use lookup::tenths_in_pence;
 
 mod tables;
 

@@ -125,5 +125,8 @@ pub fn cost(t: Terms, rates: TableRates) -> ContributionPence
 {
     let units = t.amount / scheme::STEP;
     let own = ContributionPence::of_units(units, rates.lower);
-    own.combine(ContributionPence::of_units(units, rates.upper), t.pnpa_months)
+    own.combine(
+        ContributionPence::of_units(units, rates.upper),
+        t.pnpa_months,
+    )
 }

@@ -169,7 +169,12 @@ fn print_pay_off(row: &[u64]) {
     let months = row_marks(row);
     let all = months.marks;
     let elapsed = elapsed::first(&all, months.count);
-    let answer = pay_off::pay_off(row_terms(row), elapsed, narrow_at(row, 15), narrow_at(row, 16));
+    let answer = pay_off::pay_off(
+        row_terms(row),
+        elapsed,
+        narrow_at(row, 15),
+        narrow_at(row, 16),
+    );
     line::write_line(
         b"pay-off* is refusal# place# remaining# increased# cost#",
         row,

@@ -83,10 +83,7 @@ impl PensionPence {
         requires { ⌜ (self .0 * twelfths < 2 ^ 64) × (unit .0 < 2 ^ 32) ⌝ }
         ensures { λ r. ⌜ r ≡ contribution (halfUp (self .0 * twelfths) (monthsInYear * unit .0)) ⌝ }
     {
-        ContributionPence(rounding::half_up(
-            self.0 * twelfths,
-            MONTHS_IN_YEAR as u64 * unit.0,
-        ))
+        ContributionPence(rounding::half_up(self.0 * twelfths, MONTHS_IN_YEAR as u64 * unit.0))
     }
 
     // m twelfths of the way to another.
