@@ -11,6 +11,7 @@ use Rattle.number_bytes.proofs.Writing.{stored-front}
 use Rattle.scheme.specs.Bounds.{lastOfQuote, lastOfSettle}
 use Rattle.terms.specs.declared.Terms.{Terms}
 use Rattle.quotes.specs.Quote.{QuoteNumbers, quoteOf}
+use Rattle.quotes.proofs.Bounds.{quote-bounds}
 use Rattle.settlement.specs.Settle.{SettleNumbers, settleOf}
 use Rattle.settlement.proofs.Bounds.{settle-bounds}
 use Rattle.pay_off.specs.PayOff.{PayOffNumbers, payOffOf}
@@ -19,7 +20,6 @@ use Rattle.reduction.specs.declared.Application.{Application}
 use Rattle.reduction.specs.Answer.{ReductionNumbers, reductionLimitOf}
 use Rattle.reduction.proofs.Bounds.{reduction-bounds}
 use Rattle.host.specs.Calls.{answerIn, quoteBytes, settleBytes, payOffBytes, reductionBytes, hostQuoteOf, hostSettleOf, hostPayOffOf, hostReductionLimitOf}
-use Rattle.host.proofs.QuoteBounds.{quote-bounds}
 
 short : (size refusal : ℕ) (result buffer : List ℕ) → length buffer < size
     → (14 ≡ answerIn size refusal result buffer .value) × (buffer ≡ answerIn size refusal result buffer .buffer)

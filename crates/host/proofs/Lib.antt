@@ -1,3 +1,2 @@
-pub mod QuoteBounds
 pub mod Calls
 pub mod ReadBack

@@ -8,6 +8,8 @@ use native.Mathlib.Omega.{arith}
 use lib.ListN.{length, drop}
 use Rattle.terms.specs.declared.Terms.{Terms}
 use Rattle.quotes.specs.Quote.{QuoteNumbers, quoteOf}
+use Rattle.quotes.specs.Bounds.{QuoteBounds}
+use Rattle.quotes.proofs.Bounds.{quote-bounds}
 use Rattle.settlement.specs.Settle.{SettleNumbers, settleOf}
 use Rattle.settlement.specs.Bounds.{SettleBounds}
 use Rattle.settlement.proofs.Bounds.{settle-bounds}
@@ -22,7 +24,6 @@ use Rattle.number_bytes.specs.Bytes.{lowBytes, eightBytes, inBytes}
 use Rattle.host.specs.Calls.{quoteBytes, settleBytes, payOffBytes, reductionBytes, hostQuoteOf, hostSettleOf, hostPayOffOf, hostReductionLimitOf}
 use Rattle.host.specs.ReadBack.{numberOf, numberAt, QuoteRead, SettleRead, PayOffRead, ReductionRead}
 use Rattle.host.proofs.Calls.{quote-enough, settle-enough, pay-off-enough, reduction-enough}
-use Rattle.host.proofs.QuoteBounds.{QuoteBounds, quote-bounds}
 
 low-back : (k n : ℕ) → n < 256 ^ k → numberOf (lowBytes k n) ≡ n
 unfolding numberOf lowBytes

@@ -1,2 +1,3 @@
 pub mod Cap
 pub mod Answers
+pub mod Bounds

@@ -1,2 +1,3 @@
 pub mod Quote
 pub mod Cap
+pub mod Bounds

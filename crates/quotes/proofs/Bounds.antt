@@ -6,19 +6,14 @@ use borrow.Author.Tests.{eqb-true}
 use lib.Dec.{eqb, leb}
 use Rattle.common.proofs.Tests.{by-test}
 use Rattle.common.proofs.Choice.{either}
-use Rattle.scheme.specs.Bounds.{mostContribution, lastOfQuote}
+use Rattle.scheme.specs.Bounds.{lastOfQuote}
 use Rattle.terms.specs.declared.Terms.{Terms}
 use Rattle.terms.specs.Rules.{refusalOf}
 use Rattle.terms.proofs.Laws.{refusal-most}
 use Rattle.election.proofs.Laws.{terms-accepted, contribution-most}
-use Rattle.quotes.specs.Quote.{QuoteNumbers, lastNumber, quoteRefusal, quoteOf}
+use Rattle.quotes.specs.Quote.{lastNumber, quoteRefusal, quoteOf}
+use Rattle.quotes.specs.Bounds.{QuoteBounds}
 use Rattle.quotes.proofs.Answers.{quote-passes}
-
--- no number of a quote is larger
-pub record QuoteBounds (n : QuoteNumbers) : Type 0 where
-  pub refusal-most : n .refusal ≤ lastOfQuote
-  pub contribution-most : n .contribution ≤ mostContribution
-  pub next-most : n .next ≤ lastNumber
 
 module _ (t : Terms) (existing last : ℕ) where
   quote-refusal-most : quoteRefusal t existing last ≤ lastOfQuote
