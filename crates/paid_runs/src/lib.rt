@@ -1,4 +1,6 @@
 // Where a run of paid months ends, found eight marks at a time.
+#![tactic(auto)]
+
 ghost use Rattle.std.specs.Prelude.{◌≡◌, ◌+◌, ◌≤◌, leb, length, drop};
 ghost use Rattle.paid_runs.specs.PaidRun.{paid_run};
 

@@ -1,5 +1,7 @@
 // Rounding to the nearest whole number, and the blend of two figures by twelfths.
 // Callers go by the laws of proofs/InForce and proofs/Laws, so that another rounding can stand behind the name `nearest`.
+#![tactic(auto)]
+
 ghost use Rattle.std.specs.Prelude.{◌≡◌, ◌%◌};
 ghost use Rattle.rounding.specs.HalfEven.{half_even};
 ghost use Rattle.rounding.specs.Nearest.{half_up, nearest, twelfths, blend};

@@ -2,6 +2,8 @@
 // whose arms stand for ages and terms.
 
 // Pounds of pension a year that a rate is for: pension is sold in such steps.
+#![tactic(auto)]
+
 pub const STEP: u32 = 250;
 
 // The most pounds of pension a year that may be held.

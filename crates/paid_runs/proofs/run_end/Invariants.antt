@@ -1,0 +1,15 @@
+-- `paid_runs::run_end` meets its contract. The loop's invariant: the marks from `from` to `i` are paid, so the run ends at the same place from either.
+-- Assumes nothing.
+use mathlib.Core.Path.{◌≡◌}
+use Prim.Native.Nat.{◌+◌, ◌-◌}
+use native.Mathlib.Omega.{arith}
+use lib.ListN.{length, drop}
+use Rattle.paid_runs.specs.PaidRun.{paid_run}
+use Rattle.paid_runs.proofs.PaidRun.{run_goes_on, run_stops, run_ends}
+use Rattle.paid_runs.proofs.run_end.Given as goal
+
+abbrev pub invariant-loop-i : goal.invariant-loop-i
+invariant-loop-i l = l.i + paid_run (drop l.i l.marks) ≡ l.from + paid_run (drop l.from l.marks)
+
+abbrev pub decreases-loop-i : goal.decreases-loop-i
+decreases-loop-i l = length l.marks - l.i
