@@ -2,6 +2,8 @@
 // list of it is built: the machine code has the entries as read-only data. An arm says which age or term it is for, the function that it
 // calls asks that it is so, and all promise the same entry: so the matches need no proof of their own. The tables hold 16-bit tenths of a
 // pound, and a rate is made pence once, as it leaves.
+#![tactic(auto)]
+
 ghost use Rattle.std.specs.Prelude.{◌≡◌, ◌+◌, ◌<◌};
 ghost use Rattle.scheme.specs.Scheme.{first_age, print_margin};
 ghost use Rattle.rates.specs.Rates.{cell_of};

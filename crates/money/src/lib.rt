@@ -1,5 +1,7 @@
 // Pension a year and contribution, both in pence. Each has its own arithmetic, and nothing adds one to the other; what a contribution
 // buys and what a pension costs are the two ways between them.
+#![tactic(auto)]
+
 ghost use Rattle.std.specs.Prelude.{◌≡◌, ◌+◌, ◌*◌, ◌-◌, ◌/◌, ◌<◌, ◌^◌, ltb};
 ghost use Rattle.rounding.specs.Nearest.{half_up, nearest, blend, combine};
 ghost use Rattle.common.specs.Calendar.{months_in_year};

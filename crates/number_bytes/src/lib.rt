@@ -1,4 +1,6 @@
 // Numbers as bytes, eight to a number, the low byte first.
+#![tactic(auto)]
+
 ghost use Rattle.std.specs.Prelude.{◌≡◌, ◌+◌, ◌%◌, ◌≤◌, length};
 ghost use Rattle.std.proofs.lemmas.List.Edits.{sets};
 ghost use Rattle.number_bytes.specs.Bytes.{eight_bytes};

@@ -1,5 +1,7 @@
 // The lump sum of Table S, in pence per £250 of pension a year, read as `lookup` reads a monthly table. Those are in `personal` and
 // `dependant`.
+#![tactic(auto)]
+
 ghost use Rattle.std.specs.Prelude.{◌≡◌, ◌+◌, ◌-◌, ◌≤◌, ◌<◌, get_or};
 ghost use Rattle.common.specs.Keys.{NoneOf};
 ghost use Rattle.rates.specs.LumpSum.{personal_lump_sums, dependant_lump_sums};

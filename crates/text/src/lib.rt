@@ -1,4 +1,6 @@
 // Numbers in fields of text, read and written.
+#![tactic(auto)]
+
 ghost use Rattle.std.specs.Prelude.{◌≡◌, ◌+◌, ◌<◌, ◌≤◌, ◌++◌, length, take, drop};
 ghost use Rattle.text.specs.Field.{digits_of, field_of};
 ghost use Rattle.text.specs.Column.{glyph_of, column_of};
