@@ -1,5 +1,7 @@
 // The monthly tables of pension with dependant's pension, option 2, as the code holds them, in 16-bit tenths of a pound, and the rate
 // in pence for a pension age, an age and a term.
+#![tactic(auto)]
+
 ghost use Rattle.std.specs.Prelude.{◌≡◌};
 ghost use Rattle.rates.specs.Dependant.{d65, d66, d67, d68};
 ghost use Rattle.scheme.specs.Scheme.{first_age, print_margin};

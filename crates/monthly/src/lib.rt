@@ -1,4 +1,6 @@
 // The monthly rate of either option.
+#![tactic(auto)]
+
 ghost use Rattle.std.specs.Prelude.{◌≡◌};
 ghost use Rattle.rates.specs.Rates.{rate_of};
 

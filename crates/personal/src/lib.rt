@@ -1,5 +1,7 @@
 // The monthly tables of personal pension, option 1, as the code holds them, in 16-bit tenths of a pound, and the rate in pence for a
 // pension age, an age and a term.
+#![tactic(auto)]
+
 ghost use Rattle.std.specs.Prelude.{◌≡◌};
 ghost use Rattle.rates.specs.Personal.{p65, p66, p67, p68};
 ghost use Rattle.scheme.specs.Scheme.{first_age, print_margin};

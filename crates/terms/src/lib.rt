@@ -1,4 +1,6 @@
 // The terms of an election, and the rules on them that need no rate.
+#![tactic(auto)]
+
 ghost use Rattle.std.specs.Prelude.{◌≡◌};
 ghost use Rattle.terms.specs.Rules.{wrong_option, wrong_pension_age, wrong_payer};
 ghost use Rattle.terms.specs.Halves.{terms_refusal};

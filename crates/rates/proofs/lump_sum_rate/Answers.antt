@@ -21,12 +21,12 @@ returns-then-age-gt64 c = sym (no_lump _ _ _ (λ r. omega arith))
 pub returns-in-1 : goal.returns-in-1
 unfolding lump_column
 returns-in-1 c =
-    lump_chosen 1 _ _ (omega arith) (omega arith) (omega arith) (omega arith) c.in-1.keys1 c.personal_lump_sums.ensures c.lump_column.ensures
+    lump_chosen 1 _ _ (omega arith) (omega arith) (omega arith) (omega arith) c.in-1.is c.personal_lump_sums.ensures c.lump_column.ensures
 
 pub returns-in-2 : goal.returns-in-2
 unfolding lump_column
 returns-in-2 c =
-    lump_chosen 2 _ _ (omega arith) (omega arith) (omega arith) (omega arith) c.in-2.keys2 c.dependant_lump_sums.ensures c.lump_column-in-2.ensures
+    lump_chosen 2 _ _ (omega arith) (omega arith) (omega arith) (omega arith) c.in-2.is c.dependant_lump_sums.ensures c.lump_column-in-2.ensures
 
 pub returns-in_default : goal.returns-in_default
 returns-in_default c = sym (no_lump _ _ _ (λ r. omega arith))

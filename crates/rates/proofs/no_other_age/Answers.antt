@@ -5,4 +5,4 @@ use Rattle.common.proofs.Keys.{none_within}
 use Rattle.rates.proofs.no_other_age.Goals as goal
 
 pub returns : goal.returns
-returns c = absurd (none_within 16 49 c.requires.0 c.requires.1.0 (omega arith))
+returns c = absurd (none_within 16 49 c.requires.none_of c.requires.le_age.0 (omega arith))
