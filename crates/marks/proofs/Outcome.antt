@@ -5,15 +5,15 @@ use mathlib.Core.Logic.{◌⊎◌, inl, inr, ⊎_elim}
 use mathlib.Core.Path.{◌≡◌, refl, sym, ◌∙◌}
 use Prim.Native.Nat.{ℕ, zero, suc, ◌<◌, ◌≤◌}
 use native.Mathlib.Omega.{arith}
-use borrow.Author.Tests.{lt-ltb, ltb-true, ltb-false, eqb-true, eqb-false, eq-eqb, ne_eqb}
+use borrow.Author.Tests.{lt-ltb, ltb-true, ltb-false, eqb-true, eqb-false, ne_eqb}
 use lib.Dec.{ltb, eqb}
-use lib.ListN.{length, take, get_or, get_or-append}
+use lib.ListN.{length, get_or-append}
 use lib.Seq.{append_snoc, take_all, take-append-le, take-append_seam, get_or-append_seam}
 use Rattle.common.specs.Choice.{pick}
 use Rattle.common.proofs.Tests.{by_test}
 use Rattle.marks.specs.Counts.{last_or, paid_months, paid_through, final_gap}
 use Rattle.marks.specs.Lawful.{Lawful, FirstBad}
-use Rattle.marks.specs.Refusal.{RefusedAt, refusing, mark_refusal, first_refusal}
+use Rattle.marks.specs.Refusal.{refusing, mark_refusal, first_refusal}
 use Rattle.marks.specs.Reading.{refused_of, next_refusal_of, count_mark, step_by, step_of, read_on, reading_of, counts_of}
 use Rattle.marks.proofs.Lists.{by_the_last, length_last}
 use Rattle.marks.proofs.Counts.{counts_missed, counts_paid, counts_ended}
