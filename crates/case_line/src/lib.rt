@@ -12,21 +12,21 @@ use terms::Terms;
 use text::Field;
 
 // What the fields before the marks say.
-#[derive(Drop)]
+#[derive(Clone, Copy)]
 struct Case {
     election: u32,
     terms: Terms,
 }
 
 // The fields before the marks: whole where each says a number.
-#[derive(Drop)]
+#[derive(Clone, Copy)]
 enum Fields {
     Whole(Case),
     WrongShape,
 }
 
 // Whether a field says a number, and which, 0 where none.
-#[derive(Drop)]
+#[derive(Clone, Copy)]
 struct Said {
     right: bool,
     number: u32,

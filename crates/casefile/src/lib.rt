@@ -9,14 +9,14 @@ use case_line::{LISTED_BYTES, settle_line};
 
 // The bytes since the last line end, the first len of the array. As many as it has stand for any more: both are too long. What stands
 // behind them is left over, so no caller sees the fields.
-#[derive(Drop)]
+#[derive(Clone, Copy)]
 pub struct OpenLine {
     bytes: [u8; KEPT_BYTES],
     len: usize,
 }
 
 // How many bytes of the chunk were worked through, how many were written, and the line that is open.
-#[derive(Drop)]
+#[derive(Clone, Copy)]
 pub struct ChunkSettled {
     pub after: OpenLine,
     pub taken: usize,
@@ -24,14 +24,14 @@ pub struct ChunkSettled {
 }
 
 // What is written at the end of the file, the first wrote bytes.
-#[derive(Drop)]
+#[derive(Clone, Copy)]
 pub struct EndSettled {
     pub bytes: [u8; LISTED_BYTES],
     pub wrote: usize,
 }
 
 // How many bytes are open, taken of the chunk and written.
-#[derive(Drop)]
+#[derive(Clone, Copy)]
 struct Progress {
     len: usize,
     taken: usize,

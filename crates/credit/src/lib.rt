@@ -9,7 +9,7 @@ use money::PensionPence;
 
 // What the marks read so far have earned. A paid run is open from month `from`, where that is not `month` itself;
 // `sum` is what the closed runs earned.
-#[derive(Drop)]
+#[derive(Clone, Copy)]
 pub struct CreditSoFar {
     pub month: u32,
     pub from: u32,

@@ -13,7 +13,7 @@ use money::{ContributionPence, PensionPence};
 use terms::Terms;
 
 // The rate of the only or lower pension age, and that of the upper, which only odd months need; 0 where there is none.
-#[derive(Drop)]
+#[derive(Clone, Copy)]
 pub struct TableRates {
     pub lower: u32,
     pub upper: u32,

@@ -8,7 +8,7 @@ use money::{ContributionPence, PensionPence};
 use terms::Terms;
 
 // Terms and marks with their first refusal and its place; or, where that is 0, what the settlement goes by.
-#[derive(Drop)]
+#[derive(Clone, Copy)]
 pub struct Examined {
     pub refusal: u32,
     pub place: usize,

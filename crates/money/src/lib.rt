@@ -12,11 +12,11 @@ ghost use Rattle.money.specs.Contribution.{contribution};
 use common::MONTHS_IN_YEAR;
 
 // Pence of pension a year.
-#[derive(Drop)]
+#[derive(Clone, Copy)]
 pub struct PensionPence(pub u64);
 
 // Pence of contribution: a month's, or the whole lump sum.
-#[derive(Drop)]
+#[derive(Clone, Copy)]
 pub struct ContributionPence(pub u64);
 
 impl PensionPence {

@@ -14,7 +14,7 @@ use money::{ContributionPence, PensionPence};
 use terms::Terms;
 
 // The answer: a refusal, or what remains and what it costs.
-#[derive(Drop)]
+#[derive(Clone, Copy)]
 pub enum PayOff {
     // the refusal, and the index of a mark that Settle refuses
     Refused {

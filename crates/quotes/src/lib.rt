@@ -7,12 +7,12 @@ use money::{ContributionPence, PensionPence};
 use terms::Terms;
 
 // The register of quotes: the last number that was given.
-#[derive(Drop)]
+#[derive(Clone, Copy)]
 pub struct Register {
     pub last: u32,
 }
 
-#[derive(Drop)]
+#[derive(Clone, Copy)]
 pub enum QuoteAnswer {
     Refused(u32),
     Made {
@@ -22,7 +22,7 @@ pub enum QuoteAnswer {
 }
 
 // The answer to a request, with the register handed back.
-#[derive(Drop)]
+#[derive(Clone, Copy)]
 pub struct Quoted {
     pub answer: QuoteAnswer,
     pub register: Register,

@@ -13,7 +13,7 @@ use settlement::Settlement;
 use terms::Terms;
 
 // The marks before the count are in use; the others are 0.
-#[derive(Drop)]
+#[derive(Clone, Copy)]
 pub struct Contract {
     pub terms: Terms,
     pub marks: [u8; MOST_MARKS],
@@ -32,21 +32,21 @@ pub fn fresh_record(terms: Terms) -> Contract
 }
 
 // Whether a record is bad, and its credit where it is not.
-#[derive(Drop)]
+#[derive(Clone, Copy)]
 pub struct RecordCheck {
     pub bad: bool,
     pub credit: PensionPence,
 }
 
 // The refusal of a posting, 0 for success, and its place.
-#[derive(Drop)]
+#[derive(Clone, Copy)]
 pub struct Posted {
     pub refusal: u32,
     pub place: usize,
 }
 
 // What a posting comes to: its answer, the one mark that is written and the count.
-#[derive(Drop)]
+#[derive(Clone, Copy)]
 struct Decision {
     at: usize,
     mark: u8,

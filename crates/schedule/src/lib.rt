@@ -11,14 +11,14 @@ use money::PensionPence;
 use terms::Terms;
 
 // The answer: a refusal or 0, and where a bad mark stands.
-#[derive(Drop)]
+#[derive(Clone, Copy)]
 pub struct Scheduled {
     pub refusal: u32,
     pub place: usize,
 }
 
 // The marks read so far, and what their runs earned in each table.
-#[derive(Drop)]
+#[derive(Clone, Copy)]
 struct Walk {
     reading: Reading,
     lower: CreditSoFar,

@@ -16,7 +16,7 @@ use money::{ContributionPence, PensionPence};
 use terms::Terms;
 
 // The answer: a refusal, or what the member holds.
-#[derive(Drop)]
+#[derive(Clone, Copy)]
 pub enum Settlement {
     // the refusal, and the index of a bad mark
     Refused {
@@ -100,7 +100,7 @@ pub fn settle(t: Terms, marks: &[u8]) -> Settlement
 }
 
 // A settlement as document 01's six numbers, for the host calls and the listing; refusal 0 is none.
-#[derive(Drop)]
+#[derive(Clone, Copy)]
 pub struct SixNumbers {
     pub refusal: u64,
     pub place: u64,

@@ -9,7 +9,7 @@ use common::MONTHS_IN_YEAR;
 
 // Age in whole years, pension age (PNPA) in years and months, 1 personal or 2 with dependant's pension, 1 member or 2 employer,
 // years of monthly payments or 0 for a lump sum, pounds of pension a year. Any numbers: `election::refusal_of` refuses bad ones.
-#[derive(Drop)]
+#[derive(Clone, Copy)]
 pub struct Terms {
     pub age: u32,
     pub pnpa_years: u32,

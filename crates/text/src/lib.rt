@@ -7,7 +7,7 @@ ghost use Rattle.text.specs.Column.{glyph_of, column_of};
 ghost use Rattle.text.specs.Steps.{Spaces, put_at};
 
 // What a field says.
-#[derive(Drop)]
+#[derive(Clone, Copy)]
 pub enum Field {
     Number(u32),
     NoNumber,

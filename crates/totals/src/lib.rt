@@ -8,7 +8,7 @@ use money::PensionPence;
 use records::Contract;
 
 // What a total answers; the index is that of the first bad record, else 0.
-#[derive(Drop)]
+#[derive(Clone, Copy)]
 pub struct Total {
     pub refusal: u32,
     pub index: usize,
@@ -16,7 +16,7 @@ pub struct Total {
 }
 
 // A total so far, and the index before which records are still added: 0 after a refusal, which ends the loop.
-#[derive(Drop)]
+#[derive(Clone, Copy)]
 struct Tally {
     end: usize,
     total: Total,
