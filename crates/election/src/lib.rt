@@ -1,5 +1,7 @@
 // The rates that the terms of an election go by, the first rule that refuses them, and what they cost. A caller asks for these in this
 // order; `rates_of`, `refusal_of` and `cost` are small enough to be inlined there. `rate_at` is not, so it takes fields of the terms.
+#![tactic(auto)]
+
 ghost use Rattle.std.specs.Prelude.{◌≡◌, ◌≤◌};
 ghost use Rattle.scheme.specs.Scheme.{cap_pounds};
 ghost use Rattle.money.specs.Contribution.{contribution};

@@ -1,4 +1,6 @@
 // Quotes with their numbers, and how much more pension the cap lets a member buy.
+#![tactic(auto)]
+
 ghost use Rattle.std.specs.Prelude.{◌≡◌, ltb};
 ghost use Rattle.quotes.specs.Quote.{quote_of, numbers_of_quote, quote_is_refused};
 ghost use Rattle.quotes.specs.Cap.{cap_decision_of, GreatestUnderCap};

@@ -1,4 +1,6 @@
 // The whole-year credits of one table, and the value at a contract month.
+#![tactic(auto)]
+
 ghost use Rattle.std.specs.Prelude.{◌≡◌, ℕ, ◌*◌, ◌-◌, ◌<◌, ◌≤◌, ◌^◌, get_or};
 ghost use Rattle.rounding.specs.Nearest.{nearest};
 ghost use Rattle.scheme.specs.Scheme.{step_pence, pounds_in_pence};

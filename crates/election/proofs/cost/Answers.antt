@@ -4,7 +4,6 @@ use mathlib.Core.Path.{◌≡◌, ap, ◌∙◌}
 use Prim.Native.Nat.{ℕ, ◌*◌, ◌/◌, ◌≤◌, ◌<◌, ◌^◌}
 use native.Mathlib.Nat.{mul-le-mul}
 use native.Mathlib.Omega.{arith}
-use borrow.Author.Rules.{rules}
 use Rattle.scheme.specs.Scheme.{step_pounds, cap_pounds}
 use Rattle.scheme.specs.Bounds.{most_lump_sum_rate, most_steps}
 use Rattle.rounding.specs.Nearest.{combine}
@@ -14,8 +13,7 @@ use Rattle.election.specs.declared.TableRates.{TableRates}
 use Rattle.election.specs.Price.{contribution_at, contribution_in, contribution_of}
 use Rattle.election.specs.LookedUp.{rates_of}
 use Rattle.election.proofs.Laws.{table_rate_most, upper_rate_most, upper_rate_odd}
-use Rattle.election.proofs.cost.Statement.{statement}
-use Rattle.election.proofs.cost.Tie as tie
+use Rattle.election.proofs.cost.Goals as goal
 
 fits : (amount rate : ℕ) → amount ≤ cap_pounds → rate ≤ most_lump_sum_rate → amount / step_pounds * rate < 2 ^ 32
 fits amount rate p q =
@@ -26,24 +24,14 @@ costs : (t : Terms) {rates : TableRates} → rates ≡ rates_of t
 unfolding contribution_of contribution_in contribution_at
 costs t e = rw e (combine_upper t.pnpa_months _ _ _ (λ odd. ap (λ (rate : ℕ). t.amount / step_pounds * rate) (upper_rate_odd t odd)))
 
-of_units_requires : tie.Need-of-units-requires
-of_units_requires c κs = search rules
-
-of_units_requires_2 : tie.Need-of-units-requires-2
-of_units_requires_2 c κs = search rules
-
-combine_requires : tie.Need-combine-requires
-combine_requires c κs =
-    let a = c.before.before.before.args in
-    let p = c.before.before.before.requires in (
-      rw (c.before.of-units.ensures, p.1) (fits a.t.amount _ p.0 (table_rate_most a.t a.t.pnpa_years)),
-      rw (c.of-units2.ensures, p.1) (fits a.t.amount _ p.0 (upper_rate_most a.t)),
+pub combine-requires : goal.combine-requires
+combine-requires c =
+    let a = c.args in
+    let p = c.requires in (
+      rw (c.of_units-own.ensures, p.1) (fits a.t.amount _ p.0 (table_rate_most a.t a.t.pnpa_years)),
+      rw (c.of_units.ensures, p.1) (fits a.t.amount _ p.0 (upper_rate_most a.t)),
     )
 
-returns : tie.Need-returns
+pub returns : goal.returns
 returns c =
-    let b = c.before.before.before.before in
-    c.combine.ensures ∙ rw (c.before.of-units2.ensures, c.before.before.of-units.ensures, costs b.args.t b.requires.1)
-
-pub cost_spec : {M : Type 1} → statement M
-cost_spec = tie.close (tie.spec of_units_requires of_units_requires_2 combine_requires returns)
+    c.combine.ensures ∙ rw (c.of_units.ensures, c.of_units-own.ensures, costs c.args.t c.requires.1)
