@@ -1,4 +1,6 @@
 // The reduction buy-out limit: the earliest reduced retirement age that a member may buy out to.
+#![tactic(auto)]
+
 ghost use Rattle.std.specs.Prelude.{◌≡◌, ◌*◌, ◌-◌, ◌≤◌, ◌<◌, ◌^◌, max, ltb};
 ghost use Rattle.rounding.specs.Nearest.{half_up};
 ghost use Rattle.money.specs.Money.{pension};
@@ -14,7 +16,7 @@ ghost use Rattle.reduction.specs.Noted.{nothing_noted, noted_at};
 use money::PensionPence;
 
 // What is asked. Any numbers: `reduction_limit` refuses those that are out of range.
-#[derive(Drop)]
+#[derive(Clone, Copy)]
 pub struct Application {
     // normal pension age (NPA) and age, in whole years
     pub npa: u32,
@@ -31,7 +33,7 @@ pub struct Application {
 }
 
 // B of each candidate, what a buy-out up to it can be worth at most; nothing for one that is not tried.
-#[derive(Drop)]
+#[derive(Clone, Copy)]
 pub struct Potentials {
     pub first: PensionPence,
     pub second: PensionPence,
@@ -39,7 +41,7 @@ pub struct Potentials {
 }
 
 // The answer: an input is out of range, or there is no scope, or the earliest age; and the B of the candidates that were tried.
-#[derive(Drop)]
+#[derive(Clone, Copy)]
 pub enum ReductionLimit {
     Refused,
     NoScope(Potentials),

@@ -1,0 +1,18 @@
+-- `reduction::Potentials::noted` meets its contract, candidate by candidate.
+-- Assumes nothing.
+use native.Mathlib.Omega.{arith}
+use Rattle.reduction.specs.Noted.{noted_at}
+use Rattle.reduction.proofs.Candidates.{from_two}
+use Rattle.reduction.proofs.Potentials.noted.Goals as goal
+
+pub returns-in-0 : goal.returns-in-0
+unfolding noted_at
+returns-in-0 c = rw c.in-0.is
+
+pub returns-in-1 : goal.returns-in-1
+unfolding noted_at
+returns-in-1 c = rw c.in-1.is
+
+pub returns-in_default : goal.returns-in_default
+unfolding noted_at
+returns-in_default c = rw (from_two {k = c.args.k} (omega arith) (omega arith))
