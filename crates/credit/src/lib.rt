@@ -1,4 +1,6 @@
 // The credit of one table for a list of marks.
+#![tactic(auto)]
+
 ghost use Rattle.std.specs.Prelude.{◌≡◌, ◌+◌, ◌*◌, ◌≤◌, ◌<◌, ◌^◌, length};
 ghost use Rattle.rounding.specs.Nearest.{nearest};
 ghost use Rattle.money.specs.Money.{pension};

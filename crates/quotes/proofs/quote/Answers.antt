@@ -5,7 +5,6 @@ use mathlib.Core.Path.{◌≡◌, sym, ap, ◌∙◌}
 use Prim.Native.Nat.{ℕ, ◌+◌, ◌≤◌, ◌<◌}
 use native.Mathlib.Omega.{arith}
 use lib.Dec.{ltb}
-use borrow.Author.Rules.{rules}
 use borrow.Author.Tests.{eq-eqb, ne_eqb, le-leb, lt-leb, lt-ltb}
 use Rattle.election.proofs.Laws.{terms_accepted}
 use Rattle.election.specs.Price.{contribution_of}
@@ -16,8 +15,7 @@ use Rattle.quotes.specs.Quote.{last_number, QuoteNumbers, quote_refusal, quote_o
 use Rattle.quotes.specs.declared.QuoteAnswer.TheVariants.{Refused}
 use Rattle.quotes.specs.declared.Quoted.{Quoted}
 use Rattle.quotes.specs.declared.Register.{Register}
-use Rattle.quotes.proofs.quote.Statement.{statement}
-use Rattle.quotes.proofs.quote.Tie as tie
+use Rattle.quotes.proofs.quote.Goals as goal
 
 module _ (t : Terms) (existing last : ℕ) where
   by_terms : (refusal_of t existing ≡ 0 → ⊥) → quote_refusal t existing last ≡ refusal_of t existing
@@ -51,58 +49,29 @@ refuses : (n : ℕ) (register : Register) {q : Quoted} → q ≡ record { answer
     → quote_is_refused q.answer ≡ some_refusal (numbers_of_quote q)
 refuses n register e some = rw (e, lt-ltb 0 n (omega (arith, some)))
 
-rates_of_requires : tie.Need-rates-of-requires
-rates_of_requires c κs = search rules
+pub refusal_of-refusal-requires : goal.refusal_of-refusal-requires
+refusal_of-refusal-requires c = c.rates_of-rates.ensures
 
-refusal_of_requires : tie.Need-refusal-of-requires
-refusal_of_requires c κs = c.rates-of.ensures
+pub returns-then-refusal-ne0 : goal.returns-then-refusal-ne0
+returns-then-refusal-ne0 c =
+    let first = c.refusal_of-refusal.ensures in
+    let some = c.if-refusal-ne0.true in
+    let is = ap numbers_of_quote c.refused_quote.ensures ∙ refused _ _ _ _ (first ∙ sym (by_terms _ _ _ (λ z. some (first ∙ z)))) some in
+    record { is = is; refused = refuses _ _ c.refused_quote.ensures some ∙ ap some_refusal is }
 
-refused_quote_requires : tie.Need-refused-quote-requires
-refused_quote_requires c κs = search rules
+pub returns-then-register-ge-LAST_NUMBER : goal.returns-then-register-ge-LAST_NUMBER
+returns-then-register-ge-LAST_NUMBER c =
+    let pass = sym c.refusal_of-refusal.ensures ∙ c.if-refusal-ne0.false in
+    let is = ap numbers_of_quote c.refused_quote-then-register-ge-LAST_NUMBER.ensures ∙ refused _ _ _ _ (sym (register_full _ _ _ pass c.if-register-ge-LAST_NUMBER.true)) (λ z. omega arith) in
+    record { is = is; refused = refuses _ _ c.refused_quote-then-register-ge-LAST_NUMBER.ensures (λ z. omega arith) ∙ ap some_refusal is }
 
-returns : tie.Need-returns
+pub cost-contribution-requires : goal.cost-contribution-requires
+cost-contribution-requires c =
+    let pass = sym c.refusal_of-refusal.ensures ∙ c.if-refusal-ne0.false in
+    (omega (arith, (terms_accepted _ _ pass).under_cap), c.rates_of-rates.ensures)
+
+pub returns : goal.returns
 returns c =
-    let first = c.before.before.refusal-of.ensures in
-    let some = c.before.if1.true in
-    let is = ap numbers_of_quote c.refused-quote.ensures ∙ refused _ _ _ _ (first ∙ sym (by_terms _ _ _ (λ z. some (first ∙ z)))) some in
-    (is, refuses _ _ c.refused-quote.ensures some ∙ ap some_refusal is)
-
-refused_quote_requires_2 : tie.Need-refused-quote-requires-2
-refused_quote_requires_2 c κs = search rules
-
-returns-2 : tie.Need-returns-2
-returns-2 c =
-    let b = c.before.before.before in
-    let pass = sym b.before.refusal-of.ensures ∙ b.if1.false in
-    let is = ap numbers_of_quote c.refused-quote2.ensures ∙ refused _ _ _ _ (sym (register_full _ _ _ pass c.before.if2.true)) (λ z. omega arith) in
-    (is, refuses _ _ c.refused-quote2.ensures (λ z. omega arith) ∙ ap some_refusal is)
-
-cost_requires : tie.Need-cost-requires
-cost_requires c κs =
-    let b = c.before.before in
-    let pass = sym b.before.refusal-of.ensures ∙ b.if1.false in
-    (omega (arith, (terms_accepted _ _ pass).under_cap), b.before.before.rates-of.ensures)
-
-add_number : tie.Need-overflow-add-number
-add_number c = search rules
-
-returns-3 : tie.Need-returns-3
-returns-3 c =
-    let b = c.before.before.before.before in
-    let pass = sym b.before.refusal-of.ensures ∙ b.if1.false in
-    let is = made _ _ _ _ (ap (λ (k : ContributionPence). k.0) c.before.cost.ensures) (open_register _ _ _ pass c.before.before.if2.false) in
-    (is, ap some_refusal is)
-
-pub quote_spec : {M : Type 1} → statement M
-quote_spec =
-    tie.close
-    (tie.spec
-    rates_of_requires
-    refusal_of_requires
-    refused_quote_requires
-    returns
-    refused_quote_requires_2
-    returns-2
-    cost_requires
-    add_number
-    returns-3)
+    let pass = sym c.refusal_of-refusal.ensures ∙ c.if-refusal-ne0.false in
+    let is = made _ _ _ _ (ap (λ (k : ContributionPence). k.0) c.cost-contribution.ensures) (open_register _ _ _ pass c.if-register-ge-LAST_NUMBER.false) in
+    record { is = is; refused = ap some_refusal is }
