@@ -4,7 +4,6 @@ use mathlib.Core.List.{List}
 use mathlib.Core.Path.{◌≡◌, sym, ap, ◌∙◌}
 use Prim.Native.Nat.{ℕ}
 use native.Mathlib.Omega.{arith}
-use borrow.Author.Rules.{rules}
 use Rattle.scheme.specs.Scheme.{open_months}
 use Rattle.election.proofs.Laws.{terms_accepted}
 use Rattle.election.specs.Price.{contribution_of}
@@ -25,8 +24,8 @@ use Rattle.examination.proofs.Laws.{refused_by_terms, refused_by_marks, settled_
 use Rattle.examination.specs.Refusal.{settle_refusal}
 use Rattle.examination.specs.Examine.{refused_examined, examined_of}
 use Rattle.examination.specs.declared.Examined.{Examined}
-use Rattle.examination.proofs.examine.Statement.{statement}
-use Rattle.examination.proofs.examine.Tie as tie
+use Rattle.examination.proofs.examine.Goals.{After-refusal_of-refusal}
+use Rattle.examination.proofs.examine.Goals as goal
 
 -- the terms are refused as with nothing existing
 told : (t : Terms) {n : ℕ} {nothing : PensionPence} → n ≡ refusal_of t nothing.0 → nothing ≡ pension 0 → n ≡ refusal_of t 0
@@ -61,63 +60,26 @@ whole t ms pass cost are read none s =
     let status = s ∙ ap (status_from t.term) read ∙ status_lawful open_months t.term ms law in
     rw (status, read, marks_counts open_months t.term ms law, cost, are, examined_accepted t ms zero_refusal)
 
-refusal_is : (c : tie.After-refusal-of)
-    → c.refusal-of.result ≡ refusal_of c.before.before.before.before.args.t 0
-refusal_is c = told _ c.refusal-of.ensures c.before.none.ensures
+refusal_is : (c : After-refusal_of-refusal)
+    → c.refusal_of-refusal.result ≡ refusal_of c.args.t 0
+refusal_is c = told _ c.refusal_of-refusal.ensures c.none.ensures
 
-rates_of_requires : tie.Need-rates-of-requires
-rates_of_requires c κs = search rules
+pub refusal_of-refusal-requires : goal.refusal_of-refusal-requires
+refusal_of-refusal-requires c = c.rates_of-rates.ensures
 
-none_requires : tie.Need-none-requires
-none_requires c κs = search rules
+pub returns-then-refusal-ne0 : goal.returns-then-refusal-ne0
+returns-then-refusal-ne0 c = c.refused_examination.ensures ∙ by_terms _ _ (refusal_is (goal.at.returns-then-refusal-ne0 c).After-refusal_of-refusal) c.if-refusal-ne0.true
 
-refusal_of_requires : tie.Need-refusal-of-requires
-refusal_of_requires c κs = c.before.rates-of.ensures
+pub returns-then-read-ne0 : goal.returns-then-read-ne0
+returns-then-read-ne0 c =
+    c.refused_examination-then-read-ne0.ensures ∙ by_marks _ _ (sym (refusal_is (goal.at.returns-then-read-ne0 c).After-refusal_of-refusal) ∙ c.if-refusal-ne0.false) c.read_marks-read.ensures c.if-read-ne0.true
 
-refused_examination_requires : tie.Need-refused-examination-requires
-refused_examination_requires c κs = search rules
+pub cost-contribution-requires : goal.cost-contribution-requires
+cost-contribution-requires c =
+    let pass = sym (refusal_is (goal.at.cost-contribution-requires c).After-refusal_of-refusal) ∙ c.if-refusal-ne0.false in
+    (omega (arith, (terms_accepted _ _ pass).under_cap), c.rates_of-rates.ensures)
 
-returns : tie.Need-returns
-returns c = c.refused-examination.ensures ∙ by_terms _ _ (refusal_is c.before.before) c.before.if1.true
-
-read_marks_requires : tie.Need-read-marks-requires
-read_marks_requires c κs = search rules
-
-refused_examination_requires_2 : tie.Need-refused-examination-requires-2
-refused_examination_requires_2 c κs = search rules
-
-returns-2 : tie.Need-returns-2
-returns-2 c =
-    let b = c.before.before.before.before in
-    c.refused-examination2.ensures ∙ by_marks _ _ (sym (refusal_is b.before) ∙ b.if1.false) c.before.before.before.read-marks.ensures c.before.if2.true
-
-cost_requires : tie.Need-cost-requires
-cost_requires c κs =
-    let b = c.before.before.before in
-    let pass = sym (refusal_is b.before) ∙ b.if1.false in
-    (omega (arith, (terms_accepted _ _ pass).under_cap), b.before.before.before.rates-of.ensures)
-
-status_requires : tie.Need-status-requires
-status_requires c κs = search rules
-
-returns-3 : tie.Need-returns-3
-returns-3 c =
-    let b = c.before.before.before.before.before in
-    whole _ _ (sym (refusal_is b.before) ∙ b.if1.false) c.before.cost.ensures b.before.before.before.rates-of.ensures
-    c.before.before.before.before.read-marks.ensures c.before.before.if2.false c.status.ensures
-
-pub examine_spec : {M : Type 1} → statement M
-examine_spec =
-    tie.close
-    (tie.spec
-    rates_of_requires
-    none_requires
-    refusal_of_requires
-    refused_examination_requires
-    returns
-    read_marks_requires
-    refused_examination_requires_2
-    returns-2
-    cost_requires
-    status_requires
-    returns-3)
+pub returns : goal.returns
+returns c =
+    whole _ _ (sym (refusal_is (goal.at.returns c).After-refusal_of-refusal) ∙ c.if-refusal-ne0.false) c.cost-contribution.ensures c.rates_of-rates.ensures
+    c.read_marks-read.ensures c.if-read-ne0.false c.status-status.ensures

@@ -6,7 +6,6 @@ use mathlib.Core.Path.{◌≡◌, refl, sym, ap, subst, ◌∙◌}
 use Prim.Native.Nat.{ℕ, ◌*◌, ◌≤◌, ◌<◌, ◌^◌}
 use native.Mathlib.Omega.{arith}
 use lib.Dec.{eqb, ltb}
-use borrow.Author.Rules.{rules}
 use borrow.Author.Tests.{lt-ltb}
 use Rattle.common.specs.Choice.{pick}
 use Rattle.scheme.specs.Scheme.{most_marks}
@@ -29,8 +28,7 @@ use Rattle.examination.specs.Refusal.{settle_refusal}
 use Rattle.examination.specs.Examine.{examined_of}
 use Rattle.settlement.specs.Settle.{SettleNumbers, credit_at_status, refund_at_status, refused_numbers, settle_of}
 use Rattle.examination.specs.declared.Examined.{Examined}
-use Rattle.settlement.proofs.settle.Statement.{statement}
-use Rattle.settlement.proofs.settle.Tie as tie
+use Rattle.settlement.proofs.settle.Goals as goal
 
 -- what holds of the defined numbers holds of equal ones; b says whether the answer is a refusal
 near : (t : Terms) (ms : List ℕ) {n : SettleNumbers} {b : Bool} → n ≡ settle_of t ms → b ≡ ltb 0 n.refusal
@@ -60,31 +58,24 @@ module _ (t : Terms) (ms : List ℕ) {e : Examined} (is : e ≡ examined_of t ms
   unfolding refund_at_status
   settles none credit refund = rw (credit, refund, is, examined_accepted t ms none, settle_settled t ms none)
 
-examine_requires : tie.Need-examine-requires
-examine_requires c κs = search rules
+pub returns-then-e-ne0 : goal.returns-then-e-ne0
+returns-then-e-ne0 c =
+    let r = near _ _ (refuses _ _ c.examine-e.ensures c.if-e-ne0.true) (refusal_told _ c.if-e-ne0.true) in
+    record { is = r.0; distance = r.1.0; marks = r.1.1.0; refused = r.1.1.1 }
 
-returns : tie.Need-returns
-returns c = near _ _ (refuses _ _ c.before.before.examine.ensures c.if1.true) (refusal_told _ c.if1.true)
+pub credit_at_status-credit-requires : goal.credit_at_status-credit-requires
+credit_at_status-credit-requires c =
+    let e = c.examine-e.ensures in
+    let none = examined_none _ _ e c.if-e-ne0.false in
+    record { monthly = λ five other. examined_monthly _ _ e none (not_lump _ _ _ (rw (examined_status _ _ e none) at other)); marks_len_bound = settled_few _ _ none }
 
-credit_at_status_requires : tie.Need-credit-at-status-requires
-credit_at_status_requires c κs =
-    let b = c.before.before in
-    let e = b.before.before.examine.ensures in
-    let none = examined_none _ _ e b.if1.false in
-    (λ five other. examined_monthly _ _ e none (not_lump _ _ _ (rw (examined_status _ _ e none) at other)), settled_few _ _ none)
+pub refund_at_status-refund-requires : goal.refund_at_status-refund-requires
+refund_at_status-refund-requires c =
+    let e = c.examine-e.ensures in
+    small _ _ e (examined_none _ _ e c.if-e-ne0.false)
 
-refund_at_status_requires : tie.Need-refund-at-status-requires
-refund_at_status_requires c κs =
-    let b = c.before.before.before in
-    let e = b.before.before.examine.ensures in
-    small _ _ e (examined_none _ _ e b.if1.false)
-
-returns-2 : tie.Need-returns-2
-returns-2 c =
-    let b = c.before.before.before.before in
-    let e = b.before.before.examine.ensures in
-    near _ _ (settles _ _ e (examined_none _ _ e b.if1.false) c.before.credit-at-status.ensures c.refund-at-status.ensures) refl
-
-pub settle_spec : {M : Type 1} → statement M
-settle_spec =
-    tie.close (tie.spec examine_requires returns credit_at_status_requires refund_at_status_requires returns-2)
+pub returns : goal.returns
+returns c =
+    let e = c.examine-e.ensures in
+    let r = near _ _ (settles _ _ e (examined_none _ _ e c.if-e-ne0.false) c.credit_at_status-credit.ensures c.refund_at_status-refund.ensures) refl in
+    record { is = r.0; distance = r.1.0; marks = r.1.1.0; refused = r.1.1.1 }
