@@ -3,7 +3,6 @@
 use mathlib.Core.Path.{◌≡◌, refl, ap}
 use Prim.Native.Nat.{ℕ, ◌*◌, ◌-◌, ◌≤◌}
 use native.Mathlib.Omega.{arith}
-use borrow.Author.Rules.{rules}
 use Rattle.scheme.specs.Scheme.{pounds_in_pence, cap_pence}
 use Rattle.money.specs.Money.{pension}
 use Rattle.money.specs.Contribution.{contribution}
@@ -14,8 +13,7 @@ use Rattle.election.specs.TermsAccepted.{TermsAccepted}
 use Rattle.pay_off.specs.Price.{increased_by, price_of}
 use Rattle.pay_off.specs.PayOff.{PayOffNumbers, remaining_of, priced_pay_off}
 use Rattle.pay_off.proofs.Costs.{increased_most}
-use Rattle.pay_off.proofs.priced.Statement.{statement}
-use Rattle.pay_off.proofs.priced.Tie as tie
+use Rattle.pay_off.proofs.priced.Goals as goal
 
 module _ (t : Terms) (credit : ℕ) {whole rest : PensionPence} (w : whole ≡ pension (pounds_in_pence t.amount)) (r : rest ≡ pension (whole.0 - credit)) where
   left : rest ≡ pension (remaining_of t credit)
@@ -31,39 +29,28 @@ module _ (t : Terms) (credit : ℕ) {whole rest : PensionPence} (w : whole ≡ p
       (priced_pay_off t credit lower upper increase)
   numbers lower upper increase m c = rw (c, m, left)
 
-of_pounds_requires : tie.Need-of-pounds-requires
-of_pounds_requires c κs = search rules
-
-less_requires : tie.Need-less-requires
-less_requires c κs = search rules
-
-increased_requires : tie.Need-increased-requires
-increased_requires c κs =
-    let start = c.before.before in
+pub increased-increased-requires : goal.increased-increased-requires
+increased-increased-requires c =
     omega (
       arith,
-      start.requires.0.under_cap,
-      ap (λ (p : PensionPence). p.0) c.before.of-pounds.ensures,
-      left_most start.args.t start.args.credit.0 c.before.of-pounds.ensures c.less.ensures start.requires.0,
+      c.requires.terms_accepted.under_cap,
+      ap (λ (p : PensionPence). p.0) c.of_pounds-whole.ensures,
+      left_most c.args.t c.args.credit.0 c.of_pounds-whole.ensures c.less-remaining.ensures c.requires.terms_accepted,
     )
 
-price_requires : tie.Need-price-requires
+pub price-cost-requires : goal.price-cost-requires
 unfolding increased_by
-price_requires c κs =
-    let start = c.before.before.before in
-    let few = left_most start.args.t start.args.credit.0 c.before.before.of-pounds.ensures c.before.less.ensures start.requires.0 in
-    let most = increased_most start.args.increase c.before.less.result.0 start.requires.1 few in
-    (omega (arith, most, ap (λ (p : PensionPence). p.0) c.increased.ensures), start.requires.0.pension_age.months_high)
+price-cost-requires c =
+    let few = left_most c.args.t c.args.credit.0 c.of_pounds-whole.ensures c.less-remaining.ensures c.requires.terms_accepted in
+    let most = increased_most c.args.increase c.less-remaining.result.0 c.requires.increase_le_most_increase few in
+    (omega (arith, most, ap (λ (p : PensionPence). p.0) c.increased-increased.ensures), c.requires.terms_accepted.pension_age.months_high)
 
-returns : tie.Need-returns
+pub returns : goal.returns
 unfolding increased_by
 returns c =
-    let a = c.before.before.before.before.args in (
-      numbers a.t a.credit.0 c.before.before.before.of-pounds.ensures c.before.before.less.ensures a.sums.lower
-          a.sums.upper a.increase c.before.increased.ensures c.price.ensures,
-      refl,
-    )
-
-pub priced_spec : {M : Type 1} → statement M
-priced_spec =
-    tie.close (tie.spec of_pounds_requires less_requires increased_requires price_requires returns)
+    let a = c.args in
+    record {
+      is = numbers a.t a.credit.0 c.of_pounds-whole.ensures c.less-remaining.ensures a.sums.lower
+          a.sums.upper a.increase c.increased-increased.ensures c.price-cost.ensures;
+      accepted = refl;
+    }

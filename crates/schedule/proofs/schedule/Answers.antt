@@ -5,7 +5,6 @@ use mathlib.Core.Path.{◌≡◌, ap, ◌∙◌}
 use Prim.Native.Nat.{ℕ, ◌≤◌, ◌<◌}
 use native.Mathlib.Omega.{arith}
 use lib.ListN.{length}
-use borrow.Author.Rules.{rules}
 use borrow.Author.Tests.{eq-eqb, ne_eqb, lt-ltb, le-ltb}
 use Rattle.common.specs.Table.{tabulate}
 use Rattle.terms.specs.declared.Terms.{Terms}
@@ -18,8 +17,8 @@ use Rattle.examination.proofs.Laws.{settled_marks, examined_refused}
 use Rattle.examination.specs.Refusal.{settle_refusal}
 use Rattle.examination.specs.Examine.{examined_of, Monthly}
 use Rattle.examination.specs.declared.Examined.{Examined}
-use Rattle.schedule.proofs.schedule.Statement.{statement}
-use Rattle.schedule.proofs.schedule.Tie as tie
+use Rattle.schedule.proofs.schedule.Goals.{Else-marks-eq0}
+use Rattle.schedule.proofs.schedule.Goals as goal
 
 at_list : List ℕ → ScheduleNumbers
 at_list l = record { refusal = 0; place = 0; list = l }
@@ -54,72 +53,52 @@ monthly_terms t marks is z some =
     let none = examined_none t marks is z in
     examined_monthly t marks is none (omega (arith, (settled_marks t marks none).few))
 
-examine_requires : tie.Need-examine-requires
-examine_requires c κs = search rules
-
-returns : tie.Need-returns
-returns c = refused _ _ _ c.before.before.examine.ensures c.if1.true
-
-returns-2 : tie.Need-returns-2
-returns-2 c = short _ _ _ (examined_none _ _ c.before.before.before.examine.ensures c.before.if1.false) c.if2.true
-
-returns-3 : tie.Need-returns-3
-unfolding at_list
-returns-3 c =
-    let none = examined_none _ _ c.before.before.before.before.examine.ensures c.before.before.if1.false in
-    ap at_list (unwritten c.before.before.before.before.before.before.before.args.t _ _ c.if3.true) ∙ filled _ _ _ none c.before.if2.false
-
 -- with a mark and no refusal the contract is monthly
-monthly_here : (c : tie.Else3) → Monthly c.before.before.before.before.before.before.before.args.t c.before.before.before.before.examine.result.rates
-monthly_here c = monthly_terms _ _ c.before.before.before.before.examine.ensures c.before.before.if1.false c.if3.false
+monthly_here : (c : Else-marks-eq0) → Monthly c.args.t c.examine-e.result.rates
+monthly_here c = monthly_terms _ _ c.examine-e.ensures c.if-e-ne0.false c.if-marks-eq0.false
 
-year_credits_requires : tie.Need-year-credits-requires
-year_credits_requires c κs =
-    let m = monthly_here c.before in
-    lower_rate_asked _ m.passes m.some_years m.rates_are
+pub returns-then-e-ne0 : goal.returns-then-e-ne0
+returns-then-e-ne0 c = refused _ _ _ c.examine-e.ensures c.if-e-ne0.true
 
-upper_years_requires : tie.Need-upper-years-requires
-upper_years_requires c κs =
-    let m = monthly_here c.before.before in
-    record { monthly = m; only_most = c.year-credits.ensures.1 }
+pub returns-then-out-marks : goal.returns-then-out-marks
+returns-then-out-marks c = short _ _ _ (examined_none _ _ c.examine-e.ensures c.if-e-ne0.false) c.if-out-marks.true
 
-fill_requires : tie.Need-fill-requires
-fill_requires c κs =
-    let b = c.before.before.before.before in
-    let m = monthly_here b in
-    let y = c.before.before.year-credits.ensures in
-    let u = c.before.upper-years.ensures in (
-      record {
-        none_refused = examined_none _ _ b.before.before.before.before.examine.ensures b.before.before.if1.false;
-        monthly = m.some_years;
-        lower_is = y.0;
-        upper_is = u.is;
-        lower_most = y.1;
-        upper_most = u.most;
-      },
-      b.before.if2.false,
-    )
-
-same_length : tie.Need-same-length
-same_length c = search rules
-
-returns-4 : tie.Need-returns-4
+pub returns-then-marks-eq0 : goal.returns-then-marks-eq0
 unfolding at_list
-returns-4 c =
-    let b = c.before.before.before.before.before.before.before.before in
-    let none = examined_none _ _ b.before.before.before.examine.ensures b.before.if1.false in
-    ap at_list c.before.before.fill.ensures ∙ filled _ _ _ none b.if2.false
+returns-then-marks-eq0 c =
+    let none = examined_none _ _ c.examine-e.ensures c.if-e-ne0.false in
+    ap at_list (unwritten c.args.t _ _ c.if-marks-eq0.true) ∙ filled _ _ _ none c.if-out-marks.false
 
-pub schedule_spec : {M : Type 1} → statement M
-schedule_spec =
-    tie.close
-    (tie.spec
-    examine_requires
-    returns
-    returns-2
-    returns-3
-    year_credits_requires
-    upper_years_requires
-    fill_requires
-    same_length
-    returns-4)
+pub year_credits-only-requires : goal.year_credits-only-requires
+year_credits-only-requires c =
+    let m = monthly_here (goal.at.year_credits-only-requires c).Else-marks-eq0 in
+    let r = lower_rate_asked _ m.passes m.some_years m.rates_are in
+    record { rate_value = r.0; rate_nonzero = r.1 }
+
+pub upper_years-other-requires : goal.upper_years-other-requires
+upper_years-other-requires c =
+    let m = monthly_here (goal.at.upper_years-other-requires c).Else-marks-eq0 in
+    record { monthly = m; only_most = c.year_credits-only.ensures.most }
+
+pub fill-requires : goal.fill-requires
+fill-requires c =
+    let m = monthly_here (goal.at.fill-requires c).Else-marks-eq0 in
+    let y = c.year_credits-only.ensures in
+    let u = c.upper_years-other.ensures in
+    record {
+      scheduled_tables = record {
+        none_refused = examined_none _ _ c.examine-e.ensures c.if-e-ne0.false;
+        monthly = m.some_years;
+        lower_is = y.is;
+        upper_is = u.is;
+        lower_most = y.most;
+        upper_most = u.most;
+      };
+      marks_in_bounds = c.if-out-marks.false;
+    }
+
+pub returns : goal.returns
+unfolding at_list
+returns c =
+    let none = examined_none _ _ c.examine-e.ensures c.if-e-ne0.false in
+    ap at_list c.fill.ensures ∙ filled _ _ _ none c.if-out-marks.false

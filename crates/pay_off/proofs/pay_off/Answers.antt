@@ -7,7 +7,6 @@ use Prim.Native.Nat.{ℕ, ◌+◌, ◌≤◌}
 use native.Mathlib.Omega.{arith}
 use lib.Dec.{ltb}
 use lib.ListN.{length}
-use borrow.Author.Rules.{rules}
 use borrow.Author.Tests.{lt-ltb}
 use Rattle.scheme.specs.Scheme.{most_marks, open_months}
 use Rattle.money.specs.Money.{pension}
@@ -27,8 +26,7 @@ use Rattle.pay_off.proofs.Contract.{SumsLookedUp, contract_refused, contract_pri
 use Rattle.pay_off.proofs.Laws.{settle_refuses, contract_decides}
 use Rattle.pay_off.proofs.Settled.{same_refusal, same_place, same_status, same_credit}
 use Rattle.pay_off.proofs.Clauses.{pay_off_priced, pay_off_refusals}
-use Rattle.pay_off.proofs.pay_off.Statement.{statement}
-use Rattle.pay_off.proofs.pay_off.Tie as tie
+use Rattle.pay_off.proofs.pay_off.Goals as goal
 
 -- what the credit and the price require
 module _ (t : Terms) (ms : List ℕ) {e : Examined} (is : e ≡ examined_of t ms) (none : e.refusal ≡ 0) where
@@ -101,55 +99,32 @@ looked_up : {t : Terms} {age_now : ℕ} {sums : TableRates}
     → (sums.lower ≡ lump_sum_now t age_now t.pnpa_years) × ((t.pnpa_months ≡ 0 → ⊥) → sums.upper ≡ lump_sum_now t age_now (t.pnpa_years + 1)) → SumsLookedUp t age_now sums
 looked_up told = record { low = told.0; high = told.1 }
 
-examine_requires : tie.Need-examine-requires
-examine_requires c κs = search rules
+pub returns-then-e-ne0 : goal.returns-then-e-ne0
+returns-then-e-ne0 c =
+    let r = first _ _ _ _ c.examine-e.ensures c.if-e-ne0.true in
+    record { is = r.0; priced = r.1.0; refusals = r.1.1.0; refused = r.1.1.1 }
 
-returns : tie.Need-returns
-returns c = first _ _ _ _ c.before.before.examine.ensures c.if1.true
+pub returns-then-refusal-ne0 : goal.returns-then-refusal-ne0
+returns-then-refusal-ne0 c =
+    let r = second _ _ _ _ c.examine-e.ensures c.if-e-ne0.false
+    (refusal_is _ _ _ _ (looked_up (c.lump_sums_now-sums.ensures.lower, c.lump_sums_now-sums.ensures.upper)) c.contract_refusal-refusal.ensures) c.if-refusal-ne0.true in
+    record { is = r.0; priced = r.1.0; refusals = r.1.1.0; refused = r.1.1.1 }
 
-lump_sums_now_requires : tie.Need-lump-sums-now-requires
-lump_sums_now_requires c κs = search rules
+pub credit_at_status-credit-requires : goal.credit_at_status-credit-requires
+credit_at_status-credit-requires c =
+    let r = monthly _ _ c.examine-e.ensures c.if-e-ne0.false in
+    record { monthly = r.0; marks_len_bound = r.1 }
 
-contract_refusal_requires : tie.Need-contract-refusal-requires
-contract_refusal_requires c κs = search rules
+pub priced-requires : goal.priced-requires
+priced-requires c =
+    let t = c.args.t in
+    let told = refusal_is t _ _ _ (looked_up (c.lump_sums_now-sums.ensures.lower, c.lump_sums_now-sums.ensures.upper)) c.contract_refusal-refusal.ensures in
+    record { terms_accepted = accepted_terms _ _ c.examine-e.ensures c.if-e-ne0.false; increase_le_most_increase = (contract_passes t _ _ _ (sym told ∙ c.if-refusal-ne0.false)).increase_high }
 
-returns-2 : tie.Need-returns-2
-returns-2 c =
-    let b = c.before.before.before in
-    second _ _ _ _ b.before.before.examine.ensures b.if1.false
-    (refusal_is _ _ _ _ (looked_up c.before.before.lump-sums-now.ensures) c.before.contract-refusal.ensures) c.if2.true
-
-credit_at_status_requires : tie.Need-credit-at-status-requires
-credit_at_status_requires c κs =
-    let b = c.before.before.before.before in
-    monthly _ _ b.before.before.examine.ensures b.if1.false
-
-priced_requires : tie.Need-priced-requires
-priced_requires c κs =
-    let decided = c.before.before.before in
-    let b = decided.before.before in
-    let t = b.before.before.before.before.args.t in
-    let told = refusal_is t _ _ _ (looked_up decided.before.lump-sums-now.ensures) decided.contract-refusal.ensures in
-    (accepted_terms _ _ b.before.before.examine.ensures b.if1.false, (contract_passes t _ _ _ (sym told ∙ c.before.before.if2.false)).increase_high)
-
-returns-3 : tie.Need-returns-3
-returns-3 c =
-    let decided = c.before.before.before.before in
-    let b = decided.before.before in
-    let found = looked_up decided.before.lump-sums-now.ensures in
-    let told = refusal_is _ _ _ _ found decided.contract-refusal.ensures in
-    third _ _ _ _ b.before.before.examine.ensures b.if1.false (sym told ∙ c.before.before.before.if2.false) found
-    c.before.credit-at-status.ensures c.priced.ensures
-
-pub pay_off_spec : {M : Type 1} → statement M
-pay_off_spec =
-    tie.close
-    (tie.spec
-    examine_requires
-    returns
-    lump_sums_now_requires
-    contract_refusal_requires
-    returns-2
-    credit_at_status_requires
-    priced_requires
-    returns-3)
+pub returns : goal.returns
+returns c =
+    let found = looked_up (c.lump_sums_now-sums.ensures.lower, c.lump_sums_now-sums.ensures.upper) in
+    let told = refusal_is _ _ _ _ found c.contract_refusal-refusal.ensures in
+    let r = third _ _ _ _ c.examine-e.ensures c.if-e-ne0.false (sym told ∙ c.if-refusal-ne0.false) found
+    c.credit_at_status-credit.ensures (c.priced.ensures.is, c.priced.ensures.accepted) in
+    record { is = r.0; priced = r.1.0; refusals = r.1.1.0; refused = r.1.1.1 }
