@@ -8,6 +8,7 @@ use money::PensionPence;
 use pay_off::PayOff;
 use quotes::{QuoteAnswer, Quoted, Register};
 use reduction::{Application, ReductionLimit};
+use std::io;
 use terms::Terms;
 
 // The number in a column; 0 past the row.
@@ -52,29 +53,29 @@ fn row_marks(row: &[u64]) -> Elapsed
     elapsed::then(third, at(row, 13), at(row, 14))
 }
 
-fn print_nearest(row: &[u64]) {
+fn print_nearest(rt: &impl Print, row: &[u64]) -> io::Result<()> {
     let n = rounding::nearest(at(row, 0), at(row, 1));
-    line::write_line(b"nearest* is#", row, [n, 0, 0, 0, 0, 0]);
+    line::write_line(rt, b"nearest* is#", row, [n, 0, 0, 0, 0, 0])
 }
 
-fn print_blend(row: &[u64]) {
+fn print_blend(rt: &impl Print, row: &[u64]) -> io::Result<()> {
     let n = rounding::blend(narrow_at(row, 0), narrow_at(row, 1), narrow_at(row, 2));
-    line::write_line(b"blend* is#", row, [n, 0, 0, 0, 0, 0]);
+    line::write_line(rt, b"blend* is#", row, [n, 0, 0, 0, 0, 0])
 }
 
-fn print_rate(row: &[u64]) {
+fn print_rate(rt: &impl Print, row: &[u64]) -> io::Result<()> {
     let rate = monthly::monthly_rate(
         narrow_at(row, 0),
         narrow_at(row, 1),
         narrow_at(row, 2),
         narrow_at(row, 3),
     );
-    line::write_line(b"rate* is#", row, [rate as u64, 0, 0, 0, 0, 0]);
+    line::write_line(rt, b"rate* is#", row, [rate as u64, 0, 0, 0, 0, 0])
 }
 
-fn print_cap_decision(row: &[u64]) {
+fn print_cap_decision(rt: &impl Print, row: &[u64]) -> io::Result<()> {
     let pounds = quotes::cap_decision(PensionPence(at(row, 0)));
-    line::write_line(b"cap* is pounds#", row, [pounds as u64, 0, 0, 0, 0, 0]);
+    line::write_line(rt, b"cap* is pounds#", row, [pounds as u64, 0, 0, 0, 0, 0])
 }
 
 // Refusal, contribution, number, register.
@@ -90,23 +91,25 @@ fn quote_numbers(quoted: Quoted) -> [u64; 6] {
     }
 }
 
-fn print_quote(row: &[u64]) {
+fn print_quote(rt: &impl Print, row: &[u64]) -> io::Result<()> {
     let existing = PensionPence(at(row, 7));
     let last = narrow_at(row, 8);
     let answer = quote_numbers(quotes::quote(row_terms(row), existing, Register { last }));
     line::write_line(
+        rt,
         b"quote* is refusal# contribution# number# register#",
         row,
         answer,
-    );
+    )
 }
 
-fn print_settle(row: &[u64]) {
+fn print_settle(rt: &impl Print, row: &[u64]) -> io::Result<()> {
     let months = row_marks(row);
     let all = months.marks;
     let answer = settlement::settle(row_terms(row), elapsed::first(&all, months.count));
     let n = settlement::six_numbers_of(answer);
     line::write_line(
+        rt,
         b"settle* is refusal# place# contribution# status# credit# refund#",
         row,
         [
@@ -117,35 +120,37 @@ fn print_settle(row: &[u64]) {
             n.credit,
             n.refund,
         ],
-    );
+    )
 }
 
 // Schedule with the list that is lent.
-fn schedule_into(row: &[u64], months: &[u8], list: &mut [u32]) {
+fn schedule_into(rt: &impl Print, row: &[u64], months: &[u8], list: &mut [u32]) -> io::Result<()> {
     let answer = schedule::schedule(row_terms(row), months, list);
     line::write_line(
+        rt,
         b"schedule* is refusal# place# entries",
         row,
         [answer.refusal as u64, answer.place as u64, 0, 0, 0, 0],
-    );
-    line::write_entries(list);
+    )?;
+    line::write_entries(rt, list)
 }
 
 // Each entry of the lent list holds 7 before the call, and the whole list is printed after it. A row that asks for more than 20
 // entries prints nothing.
-fn print_schedule(row: &[u64]) {
+fn print_schedule(rt: &impl Print, row: &[u64]) -> io::Result<()> {
     let months = row_marks(row);
     let all = months.marks;
     let entries = at(row, 15) as usize;
     let mut list = [7u32; 20];
     if entries > 20 {
-        return;
+        return Ok(());
     }
     schedule_into(
+        rt,
         row,
         elapsed::first(&all, months.count),
         &mut list[..entries],
-    );
+    )
 }
 
 // Refusal, place, remaining and increased pension, cost.
@@ -160,7 +165,7 @@ fn pay_off_numbers(answer: PayOff) -> [u64; 6] {
     }
 }
 
-fn print_pay_off(row: &[u64]) {
+fn print_pay_off(rt: &impl Print, row: &[u64]) -> io::Result<()> {
     let months = row_marks(row);
     let all = months.marks;
     let elapsed = elapsed::first(&all, months.count);
@@ -171,10 +176,11 @@ fn print_pay_off(row: &[u64]) {
         narrow_at(row, 16),
     );
     line::write_line(
+        rt,
         b"pay-off* is refusal# place# remaining# increased# cost#",
         row,
         pay_off_numbers(answer),
-    );
+    )
 }
 
 // Refusal, age, the B of three candidates.
@@ -188,7 +194,7 @@ fn reduction_numbers(answer: ReductionLimit) -> [u64; 6] {
     }
 }
 
-fn print_reduction_limit(row: &[u64]) {
+fn print_reduction_limit(rt: &impl Print, row: &[u64]) -> io::Result<()> {
     let answer = reduction::reduction_limit(Application {
         npa: narrow_at(row, 0),
         age: narrow_at(row, 1),
@@ -200,25 +206,26 @@ fn print_reduction_limit(row: &[u64]) {
         limit: PensionPence(at(row, 7)),
     });
     line::write_line(
+        rt,
         b"reduction-limit* is refusal# age# first# second# third#",
         row,
         reduction_numbers(answer),
-    );
+    )
 }
 
 // By the number of its columns, as cases.rt names them; any other row prints nothing.
-fn print_row(row: &[u64]) {
+fn print_row(rt: &impl Print, row: &[u64]) -> io::Result<()> {
     match row.len() {
-        1 => print_cap_decision(row),
-        2 => print_nearest(row),
-        3 => print_blend(row),
-        4 => print_rate(row),
-        8 => print_reduction_limit(row),
-        9 => print_quote(row),
-        15 => print_settle(row),
-        16 => print_schedule(row),
-        17 => print_pay_off(row),
-        _ => {}
+        1 => print_cap_decision(rt, row),
+        2 => print_nearest(rt, row),
+        3 => print_blend(rt, row),
+        4 => print_rate(rt, row),
+        8 => print_reduction_limit(rt, row),
+        9 => print_quote(rt, row),
+        15 => print_settle(rt, row),
+        16 => print_schedule(rt, row),
+        17 => print_pay_off(rt, row),
+        _ => Ok(()),
     }
 }
 
@@ -234,13 +241,14 @@ fn row_end(from: usize, columns: u64, end: usize) -> usize
 }
 
 // A line for each row, after the document's name.
-pub fn print_table(document: &[u8], table: &[u64]) {
+pub fn print_table(rt: &impl Print, document: &[u8], table: &[u64]) -> io::Result<()> {
     let mut from = 0;
     while from < table.len() {
         let end = row_end(from, table[from], table.len());
-        line::write_text(document);
-        print_row(&table[from + 1..end]);
-        line::write_text(b"\n");
+        line::write_text(rt, document)?;
+        print_row(rt, &table[from + 1..end])?;
+        line::write_text(rt, b"\n")?;
         from = end;
     }
+    Ok(())
 }
