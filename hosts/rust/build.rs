@@ -3,7 +3,7 @@
 use std::env;
 use std::path::PathBuf;
 
-/// Names the archive's folder, where it is not the one that `rt staticlib host` writes to.
+/// Names the archive's folder, where it is not the one that `hosts/build` writes to.
 const FOLDER: &str = "ADDITIONAL_PENSION_LIB";
 
 fn main() {
@@ -14,7 +14,7 @@ fn main() {
     println!("cargo::rerun-if-changed={}", archive.display());
     if !archive.is_file() {
         println!(
-            "cargo::error=There is no archive {}: write it with 'rt staticlib host', or name its folder in {FOLDER}.",
+            "cargo::error=There is no archive {}: write it with 'hosts/build archive', or name its folder in {FOLDER}.",
             archive.display()
         );
         return;

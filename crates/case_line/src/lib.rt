@@ -1,4 +1,6 @@
 // One line of the case file to one line of the listing.
+#![tactic(auto)]
+
 ghost use Rattle.std.specs.Prelude.{◌≡◌, ◌-◌, ◌≤◌, length, take, drop};
 ghost use Rattle.text.specs.Field.{field_of};
 ghost use Rattle.settlement.specs.Six.{as_settle_numbers};

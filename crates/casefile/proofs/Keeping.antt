@@ -1,23 +1,13 @@
--- What is kept of an open line, and what is copied.
+-- What is kept of an open line.
 -- Assumes nothing.
-use mathlib.Core.List.{List, [], ◌∷◌, ◌++◌, append-nil, append_assoc}
+use mathlib.Core.List.{List, [], ◌∷◌, ◌++◌}
 use mathlib.Core.Path.{◌≡◌, sym, ap, ◌∙◌}
 use Prim.Native.Nat.{ℕ, zero, suc, ◌+◌, ◌-◌, ◌≤◌, min}
 use native.Mathlib.Omega.{arith}
-use lib.ListN.{length, take, drop, length-drop, drop_of_length-le}
-use lib.Seq.{paste, take-paste, take_all, take-take, take-append-add, drop-drop, length-take-le}
+use lib.ListN.{length, take}
+use lib.Seq.{paste, take-paste, take-take, take-append-add, length-take-le}
 use Rattle.casefile.specs.Stream.{kept_bytes}
 use Rattle.casefile.specs.Steps.{PartKept}
-
--- a source copied into the part of a list from an index on, `ys` being what that part then holds, and the part put back
-pub copied_in : (old src ys : List ℕ) (at n : ℕ) → n ≡ length src → at + n ≤ length old
-    → ys ≡ take (length src) src ++ drop (length src) (take (length old - at) (drop at old))
-    → take at old ++ (ys ++ drop (length old - at) (drop at old)) ≡ paste old at src n
-copied_in old src ys at n count room e =
-    let long = length-drop at old in
-    let all : take (length old - at) (drop at old) ≡ drop at old = take_all (length old - at) (drop at old) (omega arith) in
-    let none : drop (length old - at) (drop at old) ≡ [] = drop_of_length-le (drop at old) {i = length old - at} (omega arith) in
-    rw (e, all, none, append-nil, ← count, drop-drop n at old) (sym (append_assoc (take at old) (take n src) (drop (at + n) old)))
 
 -- no more than there are
 take_least : (n : ℕ) (l : List ℕ) → take (min n (length l)) l ≡ take n l

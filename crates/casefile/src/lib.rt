@@ -1,10 +1,11 @@
 // The case file: each of its lines settled, as a line of the listing, in chunks of any size and fixed memory.
+#![tactic(auto)]
+
 ghost use Rattle.std.specs.Prelude.{[], ◌++◌, ◌≡◌, ◌+◌, ◌≤◌, min, length, take};
 ghost use Rattle.case_line.specs.Line.{listed_bytes, line_of};
 ghost use Rattle.casefile.specs.Stream.{kept_bytes, bytes_of, numbers_of_chunk, chunk_of, end_of};
-ghost use Rattle.casefile.specs.Steps.{PartKept, PartSettled};
+ghost use Rattle.casefile.specs.Steps.{EndFound, PartKept, PartSettled};
 
-use bytes::scan::find;
 use case_line::{LISTED_BYTES, settle_line};
 
 // The bytes since the last line end, the first len of the array. As many as it has stand for any more: both are too long. What stands
@@ -54,8 +55,9 @@ fn keep(bytes: &mut [u8], len: usize, part: &[u8]) -> usize
     ensures { PartKept bytes.old len part.now bytes.new result }
 {
     let n = least(KEPT_BYTES - len, part.len());
-    bytes::copy(&part[..n], &mut bytes[len..]);
-    len + n
+    let kept = len + n;
+    bytes[len..kept].copy_from_slice(&part[..n]);
+    kept
 }
 
 // The listing's line for an open line that ends after the part. Where nothing is open, the part is not copied.
@@ -70,6 +72,17 @@ fn end_line(bytes: &mut [u8], len: usize, part: &[u8]) -> [u8; LISTED_BYTES]
     settle_line(&bytes[..whole])
 }
 
+// Where the line that goes on at the start ends in the chunk: the index of its line end, or the chunk's length where it has none.
+fn end_from(chunk: &[u8], start: usize) -> usize
+    requires { start ≤ length chunk.now }
+    ensures { EndFound chunk.now start result }
+{
+    match chunk[start..].iter().position(|b| *b == b'\n') {
+        Some(n) => start + n,
+        None => chunk.len(),
+    }
+}
+
 // Settles the next part of the chunk: the line that ends in it, or what is open of one that goes on.
 fn settle_part(bytes: &mut [u8], chunk: &[u8], out: &mut [u8], at: Progress) -> Progress
     requires bytes_len { (length bytes.old ≡ kept_bytes) × (at.len ≤ kept_bytes) }
@@ -77,13 +90,13 @@ fn settle_part(bytes: &mut [u8], chunk: &[u8], out: &mut [u8], at: Progress) -> 
     ensures { PartSettled bytes.old chunk.now out.old bytes.new out.new at result }
 {
     let taken = at.taken;
-    let end = find(chunk, taken, chunk.len(), b'\n');
+    let end = end_from(chunk, taken);
     if end < chunk.len() {
         let next = end + 1;
         let row = end_line(bytes, at.len, &chunk[taken..end]);
         let before = at.wrote;
-        bytes::copy(&row, &mut out[before..]);
         let wrote = before + LISTED_BYTES;
+        out[before..wrote].copy_from_slice(&row);
         return Progress {
             len: 0,
             taken: next,

@@ -5,7 +5,7 @@ use Prim.Native.Nat.{ℕ, zero, suc, ◌+◌, ◌*◌, ◌-◌, ◌≤◌, ◌<�
 use native.Mathlib.Decide.{ℕ_discrete}
 use native.Mathlib.Nat.{mul-le-mul_right, le_of_mul-le-mul_right, mul-pos, mul-sub, dvd-mul_right, dvd-mul_left_of_dvd}
 use native.Mathlib.Omega.{arith}
-use Rattle.distance.specs.Fraction.{Fraction, ◌over◌, ◌plus◌, ◌minus◌, ◌dividedBy◌}
+use Rattle.distance.specs.Fraction.{Fraction, ◌over◌, ◌plus◌, ◌minus◌, ◌divided_by◌}
 use Rattle.distance.specs.Distance.{Within}
 use Rattle.distance.proofs.Near.{Close}
 

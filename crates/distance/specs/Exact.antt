@@ -4,7 +4,7 @@ use Rattle.std.specs.Prelude.{Bool, true, false, List, [], ◌∷◌, ℕ, zero,
 use Rattle.common.specs.Calendar.{months_in_year}
 use Rattle.years.specs.Years.{Purchase, own_contribution}
 use Rattle.credit.specs.Runs.{paid_flags}
-use Rattle.distance.specs.Fraction.{Fraction, ◌over◌, ◌plus◌, ◌minus◌, ◌times◌, ◌dividedBy◌}
+use Rattle.distance.specs.Fraction.{Fraction, ◌over◌, ◌plus◌, ◌minus◌, ◌times◌, ◌divided_by◌}
 
 -- Exact year n: the unit times the quotient of the table's own contribution by its rate at n; nothing at n = 0. Not for n past the term.
 unfoldable pub exact_year : Purchase → (n : ℕ) → Fraction

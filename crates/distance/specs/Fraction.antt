@@ -3,7 +3,7 @@
 use Rattle.std.specs.Prelude.{ℕ, ◌+◌, ◌*◌, ◌-◌}
 
 infix 60 ◌over◌
-infixl 62 ◌dividedBy◌
+infixl 62 ◌divided_by◌
 infixl 65 ◌plus◌ ◌minus◌
 infixr 70 ◌times◌
 -- a numerator over a denominator
@@ -28,5 +28,5 @@ abbrev pub ◌times◌ : ℕ → Fraction → Fraction
 n times x = (n * x.num) over x.den
 
 -- a fraction divided by a number
-abbrev pub ◌dividedBy◌ : Fraction → ℕ → Fraction
+abbrev pub ◌divided_by◌ : Fraction → ℕ → Fraction
 x divided_by n = x.num over (x.den * n)

@@ -1,4 +1,6 @@
 // Whether terms and marks are refused, and by which rule first; or what a settlement of them goes by.
+#![tactic(auto)]
+
 ghost use Rattle.std.specs.Prelude.{◌≡◌};
 ghost use Rattle.marks.specs.Refusal.{refusing};
 ghost use Rattle.examination.specs.Examine.{refused_examined, examined_of};

@@ -1,5 +1,7 @@
 // Quote, Settle, the pay-off and the reduction limit for a host in C or Rust: plain numbers and a byte slice of marks in, the results as
 // bytes in a lent buffer.
+#![tactic(auto)]
+
 ghost use Rattle.std.specs.Prelude.{◌≡◌, [], ◌∷◌};
 ghost use Rattle.quotes.specs.Quote.{numbers_of_quote};
 ghost use Rattle.pay_off.specs.PayOff.{numbers_of_pay_off};

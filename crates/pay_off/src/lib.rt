@@ -1,4 +1,6 @@
 // Paying off the rest: what a contract lacks of its amount, bought as a lump sum at the age that the member has now.
+#![tactic(auto)]
+
 ghost use Rattle.std.specs.Prelude.{◌≡◌, false, ◌||◌, ◌+◌, ◌≤◌, ◌<◌, ◌^◌, ltb, eqb};
 ghost use Rattle.common.specs.Choice.{pick};
 ghost use Rattle.common.specs.Calendar.{months_in_year};

@@ -3,5 +3,4 @@ pub mod Bad
 pub mod Cells
 pub mod Posting
 pub mod Place
-pub mod Element
 pub mod History

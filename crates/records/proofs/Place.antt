@@ -1,6 +1,6 @@
 -- The place of a posting that is refused: the record's count for 11 and 12, else 0.
 -- Assumes nothing.
-use mathlib.Core.Bool.{true, false, ◌||◌}
+use mathlib.Core.Bool.{false, ◌||◌}
 use mathlib.Core.List.{List, [], ◌∷◌, ◌++◌}
 use mathlib.Core.Logic.{◌⊎◌, inl, inr}
 use mathlib.Core.Path.{◌≡◌, refl, sym, ap, subst, ◌∙◌}
@@ -9,7 +9,7 @@ use native.Mathlib.Decide.{ℕ_discrete}
 use native.Mathlib.Omega.{arith}
 use borrow.Author.Tests.{ltb-true, ltb-false}
 use lib.Dec.{ltb, eqb}
-use lib.ListN.{length, take, get_or}
+use lib.ListN.{length, take}
 use Rattle.common.specs.Calendar.{months_in_year}
 use Rattle.common.specs.Choice.{pick}
 use Rattle.common.proofs.Tests.{by_test}

@@ -1,4 +1,6 @@
 // The contract record, and posting a month in its own memory.
+#![tactic(auto)]
+
 ghost use Rattle.std.specs.Prelude.{◌≡◌, drop};
 ghost use Rattle.records.specs.Record.{all_zero};
 ghost use Rattle.records.specs.Check.{bad_check, check_of};

@@ -1,4 +1,6 @@
 // A credit for each elapsed month: what a member held after it.
+#![tactic(auto)]
+
 ghost use Rattle.std.specs.Prelude.{◌≡◌, ◌≤◌, ◌<◌, ◌^◌, length};
 ghost use Rattle.money.specs.Money.{pension};
 ghost use Rattle.schedule.specs.Schedule.{filled_of, numbers_of_schedule, schedule_of};

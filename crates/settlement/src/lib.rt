@@ -1,4 +1,6 @@
 // What a member holds: contribution, status, credit and refund of an election for the marks of its elapsed months.
+#![tactic(auto)]
+
 ghost use Rattle.std.specs.Prelude.{◌≡◌, length, ◌*◌, ◌≤◌, ◌<◌, ◌^◌, eqb, ltb};
 ghost use Rattle.common.specs.Choice.{pick};
 ghost use Rattle.scheme.specs.Scheme.{most_marks};

@@ -1,4 +1,6 @@
 // A member's total over a list of contract records.
+#![tactic(auto)]
+
 ghost use Rattle.std.specs.Prelude.{◌≡◌, ◌*◌, ◌≤◌};
 ghost use Rattle.scheme.specs.Scheme.{cap_pence};
 ghost use Rattle.totals.specs.Total.{most_records, member_total_of};

@@ -24,7 +24,7 @@ fn program() -> PathBuf {
     let program = env::var_os("SETTLE_CASES").map_or(built, PathBuf::from);
     assert!(
         program.is_file(),
-        "There is no program {}: build it with 'rt check settle_cases', or name it in SETTLE_CASES.",
+        "There is no program {}: build it with 'hosts/build program', or name it in SETTLE_CASES.",
         program.display()
     );
     program
