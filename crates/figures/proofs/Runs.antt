@@ -7,7 +7,6 @@ use native.Mathlib.Numerals.{add-one}
 use native.Mathlib.Omega.{arith}
 use lib.ListN.{length, length-take, take, set, replicate}
 use lib.Seq.{take_all, take-append-le, take-suc-set, append_snoc}
-use Rattle.figures.specs.Elapsed.{with_run}
 
 -- a month goes from the run to the marks
 pub month_moved : (marks : List ℕ) (count left mark : ℕ) → count < length marks → 0 < left → take count marks ++ replicate left mark ≡ take (count + 1) (set marks count mark) ++ replicate (left - 1) mark
@@ -24,7 +23,3 @@ buffer_full marks count rest e h = rw (take_all count marks (omega arith), take-
 pub at_most : (marks : List ℕ) (count left mark : ℕ) → length marks ≡ 256 → left ≡ 0 → take count marks ≡ take 256 (take count marks ++ replicate left mark)
 at_most marks count left mark e z =
     rw (z, append-nil) (sym (take_all 256 (take count marks) (rw length-take (omega arith))))
-
--- a run added, with the marks before it and the run known by other names
-pub run_renamed : {all before other : List ℕ} {mark n months count : ℕ} → all ≡ with_run before mark months → before ≡ other → mark ≡ n → months ≡ count → all ≡ with_run other n count
-run_renamed e b m n = cc
