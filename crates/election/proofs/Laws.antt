@@ -10,7 +10,6 @@ use borrow.Author.Tests.{ltb-false, leb-false, eqb-true, ne_eqb, not-false}
 use Rattle.common.proofs.Choice.{either}
 use Rattle.common.proofs.Tests.{never, or_false}
 use Rattle.rounding.proofs.Laws.{combine_most, combine_least}
-use Rattle.common.specs.Calendar.{months_in_year}
 use Rattle.scheme.specs.Scheme.{step_pounds}
 use Rattle.scheme.specs.Bounds.{most_lump_sum_rate, most_monthly_rate, most_steps, most_monthly_contribution, most_contribution}
 use Rattle.rates.proofs.Lookups.{rate_no_table}

@@ -1,6 +1,6 @@
 -- What holds of every pay-off of request 1 of document 02, beside its numbers: what is priced, and what refuses in which order.
 -- Assumes nothing.
-use Rattle.std.specs.Prelude.{List, ◌⊎◌, ◌≡◌, ℕ, ◌+◌, ◌*◌, ◌≤◌, ◌<◌}
+use Rattle.std.specs.Prelude.{List, ◌⊎◌, ◌≡◌, ℕ, ◌+◌, ◌≤◌, ◌<◌}
 use Rattle.scheme.specs.Scheme.{pounds_in_pence}
 use Rattle.rates.specs.Rates.{LumpPrinted}
 use Rattle.terms.specs.declared.Terms.{Terms}

@@ -1,7 +1,7 @@
 -- `credit::credit_over` meets its contract. The loop's invariant: what the runs before month i earned and what the runs from there on
 -- earn are together the credit, and no month earned 2 ^ 32 pence. Assumes nothing.
 use mathlib.Core.Path.{◌≡◌, ap}
-use Prim.Native.Nat.{ℕ, ◌+◌, ◌*◌, ◌-◌, ◌≤◌, ◌<◌, ◌^◌}
+use Prim.Native.Nat.{ℕ, ◌≤◌, ◌<◌, ◌^◌}
 use native.Mathlib.Omega.{arith}
 use lib.ListN.{length}
 use Rattle.rounding.specs.Nearest.{nearest}
@@ -10,7 +10,7 @@ use Rattle.money.specs.Money.{pension}
 use Rattle.years.specs.Years.{month_value}
 use Rattle.credit.specs.Runs.{runs_in}
 use Rattle.credit.specs.Credit.{credit_over}
-use Rattle.credit.proofs.ByRuns.{ends_inside, sum_from, past_run, past_other, no_runs_left}
+use Rattle.credit.proofs.ByRuns.{ends_inside, past_run, past_other, no_runs_left}
 use borrow.Author.Rules.{rules}
 use Rattle.credit.proofs.credit_over.Goals.{After-less, After-run_end-end}
 use Rattle.credit.proofs.credit_over.Goals as goal

@@ -1,16 +1,12 @@
 -- `credit::credit_over` meets its contract. The loop's invariant: what the runs before month i earned and what the runs from there on
 -- earn are together the credit, and no month earned 2 ^ 32 pence. Assumes nothing.
-use mathlib.Core.Path.{◌≡◌, ap}
-use Prim.Native.Nat.{ℕ, ◌+◌, ◌*◌, ◌-◌, ◌≤◌, ◌<◌, ◌^◌}
-use native.Mathlib.Omega.{arith}
+use mathlib.Core.Path.{◌≡◌}
+use Prim.Native.Nat.{◌+◌, ◌*◌, ◌-◌, ◌≤◌, ◌^◌}
 use lib.ListN.{length}
 use Rattle.rounding.specs.Nearest.{nearest}
-use Rattle.money.specs.declared.PensionPence.{PensionPence}
-use Rattle.money.specs.Money.{pension}
 use Rattle.years.specs.Years.{month_value}
-use Rattle.credit.specs.Runs.{runs_in}
 use Rattle.credit.specs.Credit.{credit_over}
-use Rattle.credit.proofs.ByRuns.{ends_inside, sum_from, past_run, past_other, no_runs_left}
+use Rattle.credit.proofs.ByRuns.{sum_from}
 use Rattle.credit.proofs.credit_over.Given as goal
 
 abbrev pub invariant-loop-i : goal.invariant-loop-i

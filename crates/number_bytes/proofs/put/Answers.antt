@@ -2,10 +2,9 @@
 -- gives. The measure is how many are left.
 -- Assumes nothing.
 use mathlib.Core.Path.{◌≡◌, refl, ap, ◌∙◌}
-use Prim.Native.Nat.{◌+◌, ◌-◌, ◌≤◌, ◌<◌}
+use Prim.Native.Nat.{◌<◌}
 use native.Mathlib.Omega.{arith}
-use lib.ListN.{length, length-set, drop}
-use lib.Seq.{sets}
+use lib.ListN.{length, length-set}
 use Rattle.number_bytes.proofs.Writing.{length_eight, store_one, store_none, store_all}
 use Rattle.number_bytes.proofs.put.Goals as goal
 

@@ -1,12 +1,10 @@
 -- `number_bytes::put` meets its contract. The loop's invariant: storing what is left of the eight bytes gives what storing all of them
 -- gives. The measure is how many are left.
 -- Assumes nothing.
-use mathlib.Core.Path.{◌≡◌, refl, ap, ◌∙◌}
-use Prim.Native.Nat.{◌+◌, ◌-◌, ◌≤◌, ◌<◌}
-use native.Mathlib.Omega.{arith}
-use lib.ListN.{length, length-set, drop}
+use mathlib.Core.Path.{◌≡◌}
+use Prim.Native.Nat.{◌+◌, ◌-◌, ◌≤◌}
+use lib.ListN.{length, drop}
 use lib.Seq.{sets}
-use Rattle.number_bytes.proofs.Writing.{length_eight, store_one, store_none, store_all}
 use Rattle.number_bytes.proofs.put.Given as goal
 
 abbrev pub invariant-loop-i : goal.invariant-loop-i

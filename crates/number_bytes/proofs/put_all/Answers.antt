@@ -2,10 +2,8 @@
 -- them gives. The measure is how many are left.
 -- Assumes nothing.
 use mathlib.Core.Path.{refl}
-use Prim.Native.Nat.{◌-◌}
 use native.Mathlib.Omega.{arith}
-use lib.ListN.{length}
-use Rattle.number_bytes.proofs.Writing.{Storing, number_stored, all_stored, no_room}
+use Rattle.number_bytes.proofs.Writing.{number_stored, all_stored, no_room}
 use Rattle.number_bytes.proofs.put_all.Goals as goal
 
 pub returns-then-out-numbers : goal.returns-then-out-numbers

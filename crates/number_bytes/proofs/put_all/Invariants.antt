@@ -1,11 +1,9 @@
 -- `number_bytes::put_all` meets its contract. The loop's invariant: storing the numbers that are left gives what storing all of
 -- them gives. The measure is how many are left.
 -- Assumes nothing.
-use mathlib.Core.Path.{refl}
 use Prim.Native.Nat.{◌-◌}
-use native.Mathlib.Omega.{arith}
 use lib.ListN.{length}
-use Rattle.number_bytes.proofs.Writing.{Storing, number_stored, all_stored, no_room}
+use Rattle.number_bytes.proofs.Writing.{Storing}
 use Rattle.number_bytes.proofs.put_all.Given as goal
 
 abbrev pub invariant-loop-i : goal.invariant-loop-i

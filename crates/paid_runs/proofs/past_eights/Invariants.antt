@@ -1,12 +1,9 @@
 -- `paid_runs::past_eights` meets its contract. The loop's invariant is the promise: the run ends at the same place from either.
 -- Assumes nothing.
-use mathlib.Core.Path.{◌≡◌, sym, ◌∙◌}
+use mathlib.Core.Path.{◌≡◌}
 use Prim.Native.Nat.{◌+◌, ◌-◌}
-use native.Mathlib.Omega.{arith}
-use borrow.Author.Tests.{not-false}
 use lib.ListN.{length, drop}
 use Rattle.paid_runs.specs.PaidRun.{paid_run}
-use Rattle.paid_runs.proofs.Eight.{past_eight}
 use Rattle.paid_runs.proofs.past_eights.Given as goal
 
 abbrev pub invariant-loop-i : goal.invariant-loop-i

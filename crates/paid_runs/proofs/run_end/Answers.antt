@@ -1,10 +1,6 @@
 -- `paid_runs::run_end` meets its contract. The loop's invariant: the marks from `from` to `i` are paid, so the run ends at the same place from either.
 -- Assumes nothing.
-use mathlib.Core.Path.{◌≡◌}
-use Prim.Native.Nat.{◌+◌, ◌-◌}
 use native.Mathlib.Omega.{arith}
-use lib.ListN.{length, drop}
-use Rattle.paid_runs.specs.PaidRun.{paid_run}
 use Rattle.paid_runs.proofs.PaidRun.{run_goes_on, run_stops, run_ends}
 use Rattle.paid_runs.proofs.run_end.Goals as goal
 

@@ -2,10 +2,8 @@
 -- Assumes nothing.
 use mathlib.Core.Path.{◌≡◌}
 use Prim.Native.Nat.{◌+◌, ◌-◌}
-use native.Mathlib.Omega.{arith}
 use lib.ListN.{length, drop}
 use Rattle.paid_runs.specs.PaidRun.{paid_run}
-use Rattle.paid_runs.proofs.PaidRun.{run_goes_on, run_stops, run_ends}
 use Rattle.paid_runs.proofs.run_end.Given as goal
 
 abbrev pub invariant-loop-i : goal.invariant-loop-i

@@ -1,7 +1,7 @@
 -- `pay_off::priced` meets its contract: under the cap and at an increase that is no greater than 9,999 every product fits.
 -- Assumes nothing.
 use mathlib.Core.Path.{◌≡◌, refl, ap}
-use Prim.Native.Nat.{ℕ, ◌*◌, ◌-◌, ◌≤◌}
+use Prim.Native.Nat.{ℕ, ◌-◌, ◌≤◌}
 use native.Mathlib.Omega.{arith}
 use Rattle.scheme.specs.Scheme.{pounds_in_pence, cap_pence}
 use Rattle.money.specs.Money.{pension}

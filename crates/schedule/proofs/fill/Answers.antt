@@ -2,7 +2,7 @@
 -- Assumes nothing.
 use mathlib.Core.List.{List}
 use mathlib.Core.Path.{◌≡◌, refl, subst, ◌∙◌}
-use Prim.Native.Nat.{ℕ, suc, ◌+◌, ◌-◌, ◌≤◌, ◌<◌}
+use Prim.Native.Nat.{ℕ, suc, ◌+◌, ◌≤◌, ◌<◌}
 use native.Mathlib.Omega.{arith}
 use lib.ListN.{length, take, get_or}
 use Rattle.common.proofs.Written.{Written, written_none, written_more, written_list}
@@ -17,7 +17,7 @@ use Rattle.money.specs.Money.{pension}
 use Rattle.money.specs.declared.PensionPence.{PensionPence}
 use Rattle.schedule.proofs.Laws.{walk_more, lower_fits, upper_fits, entry_held}
 use Rattle.schedule.specs.Schedule.{entry_of, filled_of}
-use Rattle.schedule.specs.Walk.{walk_of, WalkWithin, WalkTold, held_of, Holdable, ScheduledTables}
+use Rattle.schedule.specs.Walk.{walk_of, WalkTold, held_of, Holdable, ScheduledTables}
 use Rattle.schedule.specs.declared.Walk.{Walk}
 use Rattle.settlement.proofs.Bounds.{settle_bounds}
 use Rattle.examination.proofs.Laws.{settled_few}

@@ -1,9 +1,6 @@
 -- `text::digits_from` meets its contract. The invariant: the digits passed say the value.
 -- Assumes nothing.
-use mathlib.Core.Path.{◌≡◌, refl, sym, ◌∙◌}
-use Prim.Native.Nat.{◌-◌, ◌≤◌}
-use lib.ListN.{length, drop}
-use Rattle.text.specs.Field.{digits_of}
+use mathlib.Core.Path.{refl, sym, ◌∙◌}
 use Rattle.text.proofs.Reading.{digit_more, digit_low, digit_high, too_many, digits_end}
 use borrow.Author.Rules.{rules}
 use Rattle.text.proofs.digits_from.Goals as goal

@@ -1,10 +1,9 @@
 -- `text::digits_from` meets its contract. The invariant: the digits passed say the value.
 -- Assumes nothing.
-use mathlib.Core.Path.{◌≡◌, refl, sym, ◌∙◌}
+use mathlib.Core.Path.{◌≡◌}
 use Prim.Native.Nat.{◌-◌, ◌≤◌}
 use lib.ListN.{length, drop}
 use Rattle.text.specs.Field.{digits_of}
-use Rattle.text.proofs.Reading.{digit_more, digit_low, digit_high, too_many, digits_end}
 use Rattle.text.proofs.digits_from.Given as goal
 
 abbrev pub invariant-loop-i : goal.invariant-loop-i

@@ -1,12 +1,11 @@
 -- `text::put_digits` meets its contract. The invariant: the columns from j on are written.
 -- Assumes nothing.
 use mathlib.Core.Path.{◌≡◌, refl, ◌∙◌}
-use Prim.Native.Nat.{suc, ◌+◌, ◌-◌, ◌≤◌}
+use Prim.Native.Nat.{suc, ◌+◌, ◌-◌}
 use native.Mathlib.Omega.{arith}
-use mathlib.Core.List.{◌++◌}
-use lib.ListN.{length, drop, length-set}
+use lib.ListN.{length, length-set}
 use Rattle.text.specs.Column.{front_of}
-use Rattle.text.proofs.Writing.{ColumnsWritten, column_more, column_done}
+use Rattle.text.proofs.Writing.{column_more, column_done}
 use borrow.Author.Rules.{rules}
 use Rattle.text.proofs.put_digits.Goals as goal
 

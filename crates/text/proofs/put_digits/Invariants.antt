@@ -1,12 +1,10 @@
 -- `text::put_digits` meets its contract. The invariant: the columns from j on are written.
 -- Assumes nothing.
-use mathlib.Core.Path.{◌≡◌, refl, ◌∙◌}
-use Prim.Native.Nat.{suc, ◌+◌, ◌-◌, ◌≤◌}
-use native.Mathlib.Omega.{arith}
+use Prim.Native.Nat.{◌+◌, ◌≤◌}
 use mathlib.Core.List.{◌++◌}
-use lib.ListN.{length, drop, length-set}
+use lib.ListN.{drop}
 use Rattle.text.specs.Column.{front_of}
-use Rattle.text.proofs.Writing.{ColumnsWritten, column_more, column_done}
+use Rattle.text.proofs.Writing.{ColumnsWritten}
 use Rattle.text.proofs.put_digits.Given as goal
 
 abbrev pub invariant-loop-j : goal.invariant-loop-j

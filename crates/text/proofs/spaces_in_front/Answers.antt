@@ -1,10 +1,7 @@
 -- `text::spaces_in_front` meets its contract. The invariant: what is passed is spaces.
 -- Assumes nothing.
-use mathlib.Core.Path.{◌≡◌, refl, ◌∙◌}
-use Prim.Native.Nat.{◌-◌, ◌≤◌}
+use mathlib.Core.Path.{refl, ◌∙◌}
 use native.Mathlib.Omega.{arith}
-use lib.ListN.{length, drop}
-use Rattle.text.specs.Field.{field_of}
 use Rattle.text.proofs.Reading.{space_more}
 use borrow.Author.Rules.{rules}
 use Rattle.text.proofs.spaces_in_front.Goals as goal

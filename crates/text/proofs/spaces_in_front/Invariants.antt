@@ -1,11 +1,9 @@
 -- `text::spaces_in_front` meets its contract. The invariant: what is passed is spaces.
 -- Assumes nothing.
-use mathlib.Core.Path.{◌≡◌, refl, ◌∙◌}
+use mathlib.Core.Path.{◌≡◌}
 use Prim.Native.Nat.{◌-◌, ◌≤◌}
-use native.Mathlib.Omega.{arith}
 use lib.ListN.{length, drop}
 use Rattle.text.specs.Field.{field_of}
-use Rattle.text.proofs.Reading.{space_more}
 use Rattle.text.proofs.spaces_in_front.Given as goal
 
 abbrev pub invariant-loop-i : goal.invariant-loop-i

@@ -1,27 +1,11 @@
 -- `years::filled_row` meets its contract. The loop's invariant: below n the row has the years' credits, and from n on it has 0.
 -- Assumes nothing.
-use mathlib.Core.List.{List}
-use mathlib.Core.Path.{◌≡◌, sym, ap, ◌∙◌}
-use Prim.Native.Nat.{ℕ, ◌+◌, ◌*◌, ◌-◌, ◌≤◌, ◌<◌, ◌^◌}
-use native.Mathlib.Nat.{mul-le-mul_right}
-use native.Mathlib.Omega.{arith}
-use borrow.Author.Tests.{ltb-true, ltb-false}
-use lib.Dec.{ltb}
-use lib.ListN.{length, get_or, length-set, get_or-replicate}
-use lib.Seq.{get_or-set_other}
-use Rattle.common.proofs.Tests.{by_test}
-use Rattle.common.proofs.Table.{is_tabulate, table_more}
+use mathlib.Core.Path.{◌≡◌}
+use Prim.Native.Nat.{ℕ, ◌+◌, ◌-◌, ◌≤◌, ◌<◌}
+use lib.ListN.{length, get_or}
 use Rattle.rounding.specs.Nearest.{nearest}
-use Rattle.rounding.proofs.InForce.{nearest_within_half}
-use Rattle.money.specs.declared.ContributionPence.{ContributionPence}
-use Rattle.money.specs.declared.PensionPence.{PensionPence}
-use Rattle.money.specs.Money.{pension}
-use Rattle.money.specs.Contribution.{contribution}
-use Rattle.rates.proofs.Laws.{rate_printed}
-use Rattle.years.specs.Years.{Purchase, own_contribution, year_credit, year_credits, Falling}
+use Rattle.years.specs.Years.{year_credit}
 use Rattle.years.specs.Fields.{purchase_by}
-use Rattle.years.proofs.Elected.{rates_fall}
-use Rattle.years.proofs.Years.{year_none, year_within, year_past, own_most, years_most}
 use Rattle.years.proofs.filled_row.Given as goal
 
 abbrev pub invariant-loop-n : goal.invariant-loop-n

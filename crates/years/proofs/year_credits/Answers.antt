@@ -1,6 +1,5 @@
 -- `years::year_credits` meets its contract: the fields of the terms are those of the purchase, and so many steps are at most the amount.
 -- Assumes nothing.
-use Prim.Native.Nat.{ℕ}
 use native.Mathlib.Omega.{arith}
 use Rattle.years.proofs.year_credits.Goals as goal
 
