@@ -1,4 +1,4 @@
-// What is asked, a row to a line. The rows are laid out by hand: the formatter would set one number to a line.
+// What is asked, row by row.
 //
 // A row starts with its operation, told by the number of columns that follow. Terms are seven columns: age, pension age in years and
 // months, option, payer, term, amount. Marks are eight: four runs, each a mark and its number of months.

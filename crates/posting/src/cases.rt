@@ -1,5 +1,4 @@
-// The histories that are posted, one to a line: months paid, months missed, a mark, its times. They are laid out by hand: the formatter
-// would set one number to a line.
+// The histories that are posted, four numbers for each: months paid, months missed, a mark, its times.
 
 pub const HISTORIES: [u8; 80] = [
     0, 0, 1, 0, // none, some, a gap of eleven, resumed
