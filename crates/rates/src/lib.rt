@@ -32,7 +32,7 @@ fn lump_cell(sums: &[u32; 49], line: usize, age: u32) -> u32
 // No other age comes here.
 fn no_other_age(sums: &[u32; 49], age: u32) -> u32
     requires none_of { NoneOf 16 49 age }
-    requires le_age { (16 ≤ age) × (age ≤ 64) }
+    requires le_age { 16 ≤ age }
     ensures { result ≡ get_or sums.now (age - 16) 0 }
 {
     0
