@@ -3,7 +3,7 @@ ghost use Rattle.std.specs.Prelude.{◌≡◌, [], take};
 ghost use Rattle.figures.specs.Elapsed.{elapsed_marks, with_run};
 
 // The first `count` marks are the elapsed months'.
-#[derive(Drop)]
+#[derive(Clone, Copy)]
 pub struct Elapsed {
     pub marks: [u8; 256],
     pub count: usize,

@@ -7,7 +7,7 @@ use records::{Contract, Posted};
 use totals::Total;
 
 // What posting answers, and the record that it leaves.
-#[derive(Drop)]
+#[derive(Clone, Copy)]
 pub struct Outcome {
     pub posted: Posted,
     pub contract: Contract,
