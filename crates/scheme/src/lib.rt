@@ -1,9 +1,8 @@
 // The numbers of the scheme that the code goes by, as specs/Scheme.antt has them. First age and margin of the print rule are in the lookups,
 // whose arms stand for ages and terms.
-
-// Pounds of pension a year that a rate is for: pension is sold in such steps.
 #![tactic(auto)]
 
+// Pounds of pension a year that a rate is for: pension is sold in such steps.
 pub const STEP: u32 = 250;
 
 // The most pounds of pension a year that may be held.
