@@ -1,0 +1,36 @@
+-- The numbers of the refusals, 1 to 12 and 13 to 15 of document 01, 16 to 18 of document 02; 0 is none.
+-- Assumes nothing.
+use Rattle.std.specs.Prelude.{Bool, true, false, Result, Ok, Err, ℕ}
+use Rattle.refusals.specs.declared.Refusal.{Refusal}
+use Rattle.refusals.specs.declared.Refusal.TheVariants.{WrongOption, WrongPensionAge, WrongTerm, WrongPayer, NoRate, NoUpperRate, WrongAmount, AboveCap, NoNumberLeft, TooManyMarks, UnknownMark, UnlawfulMark, BadRecord, WrongLength, WrongShape, NothingToPayOff, WrongIncrease, OutOfRange}
+
+-- of each rule that refuses
+abbrev pub refusal_number : Refusal → ℕ
+refusal_number WrongOption = 1
+refusal_number WrongPensionAge = 2
+refusal_number WrongTerm = 3
+refusal_number WrongPayer = 4
+refusal_number NoRate = 5
+refusal_number NoUpperRate = 6
+refusal_number WrongAmount = 7
+refusal_number AboveCap = 8
+refusal_number NoNumberLeft = 9
+refusal_number TooManyMarks = 10
+refusal_number UnknownMark = 11
+refusal_number UnlawfulMark = 12
+refusal_number BadRecord = 13
+refusal_number WrongLength = 14
+refusal_number WrongShape = 15
+refusal_number NothingToPayOff = 16
+refusal_number WrongIncrease = 17
+refusal_number OutOfRange = 18
+
+-- of an answer that may be a refusal: 0 where it is none
+abbrev pub refusal_in : {A : Type 0} → Result A Refusal → ℕ
+refusal_in (Ok x) = 0
+refusal_in (Err r) = refusal_number r
+
+-- whether an answer is a refusal
+abbrev pub is_refused : {A E : Type 0} → Result A E → Bool
+is_refused (Ok x) = false
+is_refused (Err e) = true

@@ -1,0 +1,23 @@
+-- A refusal with its place, and the two numbers of an answer that may be one.
+-- Assumes nothing.
+use Rattle.std.specs.Prelude.{Result, Ok, Err, ℕ}
+use Rattle.refusals.specs.declared.Refusal.{Refusal}
+use Rattle.refusals.specs.declared.Refused.{Refused}
+use Rattle.refusals.specs.Numbers.{refusal_number}
+
+-- of a rule that names no place
+abbrev pub at_no_place : Refusal → Refused
+at_no_place r = record { refusal = r; place = 0 }
+
+-- a refusal with its number and place; number 0 is none
+pub record RefusedAt : Type 0 where
+  pub number : ℕ
+  pub place : ℕ
+
+abbrev pub refusing : (number place : ℕ) → RefusedAt
+refusing number place = record { number = number; place = place }
+
+-- the number and the place of an answer that may be a refusal
+abbrev pub refused_in : {A : Type 0} → Result A Refused → RefusedAt
+refused_in (Ok x) = refusing 0 0
+refused_in (Err e) = refusing (refusal_number e.refusal) e.place
