@@ -2,14 +2,17 @@
 #![tactic(auto)]
 
 ghost use Rattle.std.specs.Prelude.{◌≡◌};
+ghost use Rattle.refusals.specs.Numbers.{refusal_in};
 ghost use Rattle.terms.specs.Rules.{wrong_option, wrong_pension_age, wrong_payer};
 ghost use Rattle.terms.specs.Halves.{terms_refusal};
 
 use common::MONTHS_IN_YEAR;
+use refusals::Refusal;
 
 // Age in whole years, pension age (PNPA) in years and months, 1 personal or 2 with dependant's pension, 1 member or 2 employer,
-// years of monthly payments or 0 for a lump sum, pounds of pension a year. Any numbers: `election::refusal_of` refuses bad ones.
-#[derive(Clone, Copy)]
+// years of monthly payments or 0 for a lump sum, pounds of pension a year. Any numbers, option and payer too, since a wrong one is a
+// request like any other and is refused by its rule: an enum would ask the caller to look first.
+#[derive(Clone, Copy, Debug, PartialEq, Eq)]
 pub struct Terms {
     pub age: u32,
     pub pnpa_years: u32,
@@ -20,58 +23,52 @@ pub struct Terms {
     pub amount: u32,
 }
 
-fn wrong_option(t: Terms) -> bool
-    ensures { result ≡ wrong_option t }
-{
-    if t.option == 1 {
-        return false;
+impl Terms {
+    // The rules that need no rate, 1 to 4.
+    #[tactic(auto, using(common::proofs::Tests::tests), unfolding(crate::specs::Halves::terms_refusal, crate::specs::Rules::wrong_term))]
+    pub fn check(self) -> Result<(), Refusal>
+        ensures { refusal_in result ≡ terms_refusal self }
+    {
+        if self.wrong_option() {
+            return Err(Refusal::WrongOption);
+        }
+        if self.wrong_pension_age() {
+            return Err(Refusal::WrongPensionAge);
+        }
+        if scheme::LONGEST_TERM < self.term {
+            return Err(Refusal::WrongTerm);
+        }
+        if self.wrong_payer() {
+            return Err(Refusal::WrongPayer);
+        }
+        Ok(())
     }
-    if t.option == 2 {
-        return false;
-    }
-    true
-}
 
-fn wrong_pension_age(t: Terms) -> bool
-    ensures { result ≡ wrong_pension_age t }
-{
-    if MONTHS_IN_YEAR <= t.pnpa_months {
-        return true;
+    #[tactic(auto, using(common::proofs::Tests::tests), unfolding(crate::specs::Rules::wrong_option))]
+    fn wrong_option(self) -> bool
+        ensures { result ≡ wrong_option self }
+    {
+        self.option != 1 && self.option != 2
     }
-    if t.pnpa_years < 65 {
-        return true;
-    }
-    let year = MONTHS_IN_YEAR as u64;
-    68 * year < t.pnpa_years as u64 * year + t.pnpa_months as u64
-}
 
-fn wrong_payer(t: Terms) -> bool
-    ensures { result ≡ wrong_payer t }
-{
-    if t.payer == 1 {
-        return false;
+    #[tactic(auto, using(common::proofs::Tests::tests), unfolding(crate::specs::Rules::wrong_pension_age))]
+    fn wrong_pension_age(self) -> bool
+        ensures { result ≡ wrong_pension_age self }
+    {
+        let year = MONTHS_IN_YEAR as u64;
+        MONTHS_IN_YEAR <= self.pnpa_months
+            || self.pnpa_years < 65
+            || 68 * year < self.pnpa_years as u64 * year + self.pnpa_months as u64
     }
-    if t.payer == 2 {
-        return 0 < t.term;
-    }
-    true
-}
 
-// The rules that need no rate, 1 to 4: the first that refuses, else 0.
-pub fn terms_refusal(t: Terms) -> u32
-    ensures { result ≡ terms_refusal t }
-{
-    if wrong_option(t) {
-        return 1;
+    #[tactic(auto, using(common::proofs::Tests::tests), unfolding(crate::specs::Rules::wrong_payer))]
+    fn wrong_payer(self) -> bool
+        ensures { result ≡ wrong_payer self }
+    {
+        match self.payer {
+            1 => false,
+            2 => 0 < self.term,
+            _ => true,
+        }
     }
-    if wrong_pension_age(t) {
-        return 2;
-    }
-    if scheme::LONGEST_TERM < t.term {
-        return 3;
-    }
-    if wrong_payer(t) {
-        return 4;
-    }
-    0
 }
