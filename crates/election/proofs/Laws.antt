@@ -1,14 +1,16 @@
 -- What callers use of an election's refusal, rates and cost, without opening them.
 -- Assumes nothing.
 use mathlib.Core.Bool.{Bool, true, false, not, ◌||◌}
-use mathlib.Core.Path.{◌≡◌, refl, sym}
+use mathlib.Core.Path.{◌≡◌, refl, sym, ◌∙◌}
+use Rattle.std.specs.Prelude.{Some, None}
+use Rattle.std.proofs.lemmas.Option.{none-some}
 use Prim.Native.Nat.{ℕ, ◌+◌, ◌*◌, ◌%◌, ◌≤◌, ◌<◌}
 use native.Mathlib.Nat.{mul-le-mul, mul-pos}
 use native.Mathlib.Omega.{arith}
 use lib.Dec.{ltb, eqb}
-use borrow.Author.Tests.{ltb-false, leb-false, eqb-true, ne_eqb, not-false}
+use borrow.Author.Tests.{ltb-false, leb-false, eq-eqb, eqb-true, eqb-false, ne_eqb, not-false}
 use Rattle.common.proofs.Choice.{either}
-use Rattle.common.proofs.Tests.{never, or_false}
+use Rattle.common.proofs.Tests.{by_test, never, or_false}
 use Rattle.rounding.proofs.Laws.{combine_most, combine_least}
 use Rattle.scheme.specs.Scheme.{step_pounds}
 use Rattle.scheme.specs.Bounds.{most_lump_sum_rate, most_monthly_rate, most_steps, most_monthly_contribution, most_contribution}
@@ -66,15 +68,45 @@ unfolding table_rate rate_for
 table_rate_most t p =
     either (λ x. x ≤ most_lump_sum_rate) (eqb t.term 0) (lump_most t.option p t.age) (omega (arith, rate_most t.option p t.age t.term))
 
--- nor is the upper one
-pub upper_rate_most : (t : Terms) → upper_rate t ≤ most_lump_sum_rate
-unfolding upper_rate
-upper_rate_most t = either (λ x. x ≤ most_lump_sum_rate) (eqb t.pnpa_months 0) (omega arith) (table_rate_most t (t.pnpa_years + 1))
+some_same : (x y : ℕ) → Some x ≡ Some y → x ≡ y
+some_same x y e = cc
 
--- with odd months it is the rate of the upper pension age
-pub upper_rate_odd : (t : Terms) → (t.pnpa_months ≡ 0 → ⊥) → upper_rate t ≡ table_rate t (t.pnpa_years + 1)
+-- with odd months the upper rate is that of the upper pension age
+pub upper_rate_odd : (t : Terms) → (t.pnpa_months ≡ 0 → ⊥) → upper_rate t ≡ Some (table_rate t (t.pnpa_years + 1))
 unfolding upper_rate
 upper_rate_odd t odd = rw (ne_eqb t.pnpa_months 0 odd)
+
+-- at a whole pension age there is none
+pub upper_rate_whole : (t : Terms) → t.pnpa_months ≡ 0 → upper_rate t ≡ None
+unfolding upper_rate
+upper_rate_whole t whole = rw (eq-eqb t.pnpa_months 0 whole)
+
+-- so an upper rate that is there is that of the upper pension age, and the months are odd
+pub upper_rate_is : (t : Terms) (r : ℕ) → upper_rate t ≡ Some r → (t.pnpa_months ≡ 0 → ⊥) × (r ≡ table_rate t (t.pnpa_years + 1))
+upper_rate_is t r e =
+    by_test (eqb t.pnpa_months 0)
+    (λ whole. absurd (none-some r (sym (upper_rate_whole t (eqb-true _ 0 whole)) ∙ e)))
+    (λ odd. let o = eqb-false t.pnpa_months 0 odd in (o, some_same _ _ (sym e ∙ upper_rate_odd t o)))
+
+pub upper_rate_none : (t : Terms) → upper_rate t ≡ None → t.pnpa_months ≡ 0
+upper_rate_none t e =
+    by_test (eqb t.pnpa_months 0) (λ whole. eqb-true _ 0 whole)
+    (λ odd. absurd (none-some _ (sym e ∙ upper_rate_odd t (eqb-false _ 0 odd))))
+
+-- terms that are accepted beside an existing pension are accepted without it
+pub accepted_alone : (t : Terms) (existing : ℕ) → TermsAccepted t existing → TermsAccepted t 0
+accepted_alone t existing a =
+    record {
+      option_low = a.option_low;
+      option_high = a.option_high;
+      pension_age = a.pension_age;
+      term_high = a.term_high;
+      lower_rate = a.lower_rate;
+      upper_rate = a.upper_rate;
+      amount_low = a.amount_low;
+      whole = a.whole;
+      under_cap = omega (arith, a.under_cap);
+    }
 
 -- there is none for a pension age above 68
 pub rate_past : (t : Terms) (p : ℕ) → 68 < p → table_rate t p ≡ 0

@@ -1,75 +1,138 @@
-// The rates that the terms of an election go by, the first rule that refuses them, and what they cost. A caller asks for these in this
-// order; `rates_of`, `refusal_of` and `cost` are small enough to be inlined there. `rate_at` is not, so it takes fields of the terms.
+// The rates that the terms of an election go by, the first rule that refuses them, and what they cost.
 #![tactic(auto)]
 
-ghost use Rattle.std.specs.Prelude.{◌≡◌, ◌≤◌};
-ghost use Rattle.scheme.specs.Scheme.{cap_pounds};
+ghost use Rattle.std.specs.Prelude.{◌≡◌, ◌+◌, IfOk};
+ghost use Rattle.refusals.specs.Numbers.{refusal_in};
 ghost use Rattle.money.specs.Contribution.{contribution};
-ghost use Rattle.terms.specs.Rate.{rate_for};
-ghost use Rattle.terms.specs.Rules.{missing_upper, wrong_amount, above_cap, refusal_of};
-ghost use Rattle.terms.specs.Halves.{price_refusal};
+ghost use Rattle.terms.specs.Rate.{table_rate};
+ghost use Rattle.terms.specs.Rules.{wrong_amount, above_cap, refusal_of};
+ghost use Rattle.terms.specs.Halves.{rate_refusal, amount_refusal};
 ghost use Rattle.election.specs.Price.{contribution_of};
-ghost use Rattle.election.specs.LookedUp.{upper_rate, rates_of};
+ghost use Rattle.election.specs.LookedUp.{if_printed, rates_of};
+ghost use Rattle.election.specs.TermsAccepted.{TermsAccepted};
 
 use money::{ContributionPence, PensionPence};
+use refusals::Refusal;
 use terms::Terms;
 
-// The rate of the only or lower pension age, and that of the upper, which only odd months need; 0 where there is none.
-#[derive(Clone, Copy)]
+// The rate of the only or lower pension age, and that of the upper where odd months need one.
+#[derive(Clone, Copy, Debug, PartialEq, Eq)]
 pub struct TableRates {
     pub lower: u32,
-    pub upper: u32,
+    pub upper: Option<u32>,
 }
 
-// The rate of a whole pension age: of Table S for a lump sum, else of the monthly table.
-fn rate_at(option: u32, pension_age: u32, age: u32, term: u32) -> u32
-    ensures { result ≡ rate_for option pension_age age term }
+// The rate of terms at a whole pension age, 0 where none is printed: of Table S for a lump sum, else of the monthly table.
+#[tactic(auto, using(common::proofs::Tests::tests), unfolding(terms::specs::Rate::table_rate, terms::specs::Rate::rate_for))]
+fn table_rate(t: Terms, pension_age: u32) -> u32
+    ensures { result ≡ table_rate t pension_age }
 {
-    if term == 0 {
-        return rates::lump_sum_rate(option, pension_age, age);
+    if t.term == 0 {
+        rates::lump_sum_rate(t.option, pension_age, t.age)
+    } else {
+        monthly::monthly_rate(t.option, pension_age, t.age, t.term)
     }
-    monthly::monthly_rate(option, pension_age, age, term)
 }
 
-// No pension age above 68 has a rate, so none is looked up.
-fn upper_rate(t: Terms) -> u32
-    ensures { result ≡ upper_rate t }
+// The same where it is printed.
+#[tactic(auto, using(common::proofs::Tests::tests))]
+fn rate_at(t: Terms, pension_age: u32) -> Option<u32>
+    ensures { result ≡ if_printed (table_rate t pension_age) }
 {
-    if t.pnpa_months == 0 {
-        return 0;
+    match table_rate(t, pension_age) {
+        0 => None,
+        rate => Some(rate),
     }
-    if 67 < t.pnpa_years {
-        return 0;
-    }
-    rate_at(t.option, t.pnpa_years + 1, t.age, t.term)
 }
 
-// The rates that terms go by, whatever the terms.
-pub fn rates_of(t: Terms) -> TableRates
-    ensures { result ≡ rates_of t }
+// That of the upper pension age.
+#[tactic(auto, using(crate::proofs::Rates::past_is_none))]
+fn rate_above(t: Terms) -> Option<u32>
+    ensures { result ≡ if_printed (table_rate t (t.pnpa_years + 1)) }
 {
-    let lower = rate_at(t.option, t.pnpa_years, t.age, t.term);
-    let upper = upper_rate(t);
-    TableRates { lower, upper }
+    rate_at(t, t.pnpa_years.checked_add(1)?)
 }
 
+impl TableRates {
+    // The rates that terms go by, whatever the terms; or 5 or 6, the rules on rates. A lump sum without a rate at the upper pension age
+    // is 5, a monthly contract 6.
+    pub fn of(t: Terms) -> Result<TableRates, Refusal>
+        ensures refusal { refusal_in result ≡ rate_refusal t }
+        ensures rates { IfOk result (λ r. r ≡ rates_of t) }
+    {
+        let Some(lower) = rate_at(t, t.pnpa_years) else {
+            return Err(Refusal::NoRate);
+        };
+        if t.pnpa_months == 0 {
+            return Ok(TableRates { lower, upper: None });
+        }
+        match rate_above(t) {
+            Some(upper) => Ok(TableRates {
+                lower,
+                upper: Some(upper),
+            }),
+            None if t.term == 0 => Err(Refusal::NoRate),
+            None => Err(Refusal::NoUpperRate),
+        }
+    }
+}
+
+// Terms that no rule refuses, with the rates that they go by.
+#[derive(Clone, Copy)]
+pub struct Election {
+    pub terms: Terms,
+    pub rates: TableRates,
+    pub ghost accepted: { TermsAccepted terms 0 },
+    pub ghost looked_up: { rates ≡ rates_of terms },
+}
+
+impl Election {
+    // The terms as they are elected beside an existing pension; or the first of the rules 1 to 8 that refuses.
+    pub fn new(t: Terms, existing: PensionPence) -> Result<Election, Refusal>
+        ensures refusal { refusal_in result ≡ refusal_of t existing.0 }
+        ensures terms { IfOk result (λ e. e.terms ≡ t) }
+    {
+        t.check()?;
+        let rates = TableRates::of(t)?;
+        check_amount(t, existing)?;
+        Ok(Election { terms: t, rates })
+    }
+
+    // What it costs.
+    pub fn cost(self) -> ContributionPence
+        ensures { result ≡ contribution (contribution_of self.terms) }
+    {
+        let units = self.terms.amount / scheme::STEP;
+        let own = ContributionPence::of_units(units, self.rates.lower);
+        match self.rates.upper {
+            Some(rate) => own.blend(
+                ContributionPence::of_units(units, rate),
+                self.terms.pnpa_months,
+            ),
+            None => own,
+        }
+    }
+}
+
+// The rules on amount and cap, 7 and 8.
+#[tactic(auto, unfolding(terms::specs::Halves::amount_refusal))]
+fn check_amount(t: Terms, existing: PensionPence) -> Result<(), Refusal>
+    ensures { refusal_in result ≡ amount_refusal t existing.0 }
+{
+    if wrong_amount(t) {
+        return Err(Refusal::WrongAmount);
+    }
+    if above_cap(t, existing) {
+        return Err(Refusal::AboveCap);
+    }
+    Ok(())
+}
+
+#[tactic(auto, using(common::proofs::Tests::tests), unfolding(terms::specs::Rules::wrong_amount))]
 fn wrong_amount(t: Terms) -> bool
     ensures { result ≡ wrong_amount t }
 {
-    if t.amount < scheme::STEP {
-        return true;
-    }
-    t.amount % scheme::STEP != 0
-}
-
-// Whether the upper pension age is needed and has no rate.
-pub fn missing_upper(t: Terms, upper: u32) -> bool
-    ensures { result ≡ missing_upper t upper }
-{
-    if t.pnpa_months == 0 {
-        return false;
-    }
-    upper == 0
+    t.amount < scheme::STEP || t.amount % scheme::STEP != 0
 }
 
 // Whether the existing pension and the amount together are above the cap. No sum of any existing pension and any amount is made,
@@ -78,57 +141,5 @@ fn above_cap(t: Terms, existing: PensionPence) -> bool
     ensures { result ≡ above_cap t existing.0 }
 {
     let cap = PensionPence::of_pounds(scheme::CAP);
-    if existing.is_above(cap) {
-        return true;
-    }
-    PensionPence::of_pounds(t.amount).is_above(cap.less(existing))
-}
-
-// The rules on rates, amount and cap, 5 to 8: the first that refuses, else 0. A lump sum without a rate at the upper pension age is 5,
-// a monthly contract 6.
-fn price_refusal(t: Terms, rates: TableRates, existing: PensionPence) -> u32
-    requires { rates ≡ rates_of t }
-    ensures { result ≡ price_refusal t existing.0 }
-{
-    if rates.lower == 0 {
-        return 5;
-    }
-    if missing_upper(t, rates.upper) {
-        if t.term == 0 {
-            return 5;
-        }
-        return 6;
-    }
-    if wrong_amount(t) {
-        return 7;
-    }
-    if above_cap(t, existing) {
-        return 8;
-    }
-    0
-}
-
-// The first of the rules 1 to 8 that refuses terms with these rates, else 0.
-pub fn refusal_of(t: Terms, rates: TableRates, existing: PensionPence) -> u32
-    requires { rates ≡ rates_of t }
-    ensures { result ≡ refusal_of t existing.0 }
-{
-    let early = terms::terms_refusal(t);
-    if early != 0 {
-        return early;
-    }
-    price_refusal(t, rates, existing)
-}
-
-// What terms cost whose amount the cap allows.
-pub fn cost(t: Terms, rates: TableRates) -> ContributionPence
-    requires { (t.amount ≤ cap_pounds) × (rates ≡ rates_of t) }
-    ensures { result ≡ contribution (contribution_of t) }
-{
-    let units = t.amount / scheme::STEP;
-    let own = ContributionPence::of_units(units, rates.lower);
-    own.combine(
-        ContributionPence::of_units(units, rates.upper),
-        t.pnpa_months,
-    )
+    existing.is_above(cap) || PensionPence::of_pounds(t.amount).is_above(cap.less(existing))
 }

@@ -1,7 +1,7 @@
 -- What callers use of the refusals without opening them: what passes, and which half of the chain decides.
 -- Assumes nothing.
 use mathlib.Core.Bool.{Bool, true, false}
-use mathlib.Core.Path.{◌≡◌, refl, sym, ◌∙◌}
+use mathlib.Core.Path.{◌≡◌, refl, sym, ap, ◌∙◌}
 use Prim.Native.Nat.{ℕ, ◌+◌, ◌≤◌, ◌<◌}
 use native.Mathlib.Omega.{arith}
 use lib.Dec.{eqb}
@@ -16,7 +16,7 @@ use Rattle.terms.specs.Rate.{rate_for, table_rate}
 use Rattle.terms.specs.Rules.{wrong_option, wrong_pension_age, wrong_term, wrong_payer, missing_upper, no_rate, no_upper_rate, wrong_amount, above_cap}
 use Rattle.terms.specs.Rules.{refusal_of}
 use Rattle.terms.specs.Printed.{FirstFourPass}
-use Rattle.terms.specs.Halves.{terms_refusal, price_refusal}
+use Rattle.terms.specs.Halves.{terms_refusal, price_refusal, rate_refusal, amount_refusal}
 
 -- a chain gives 0 only where its first test fails and the rest gives 0
 passed : (b : Bool) (n rest : ℕ) → 0 < n → pick b n rest ≡ 0 → (b ≡ false) × (rest ≡ 0)
@@ -75,6 +75,27 @@ module _ (t : Terms) (existing : ℕ) where
 
   pub none_refuses : refusal_of t existing ≡ 0 → (terms_refusal t ≡ 0) × (price_refusal t existing ≡ 0)
   none_refuses z = both_pass (terms_refusal t) (price_refusal t existing) (sym halves ∙ z)
+
+-- the second half is its first two rules, and where they pass the other two
+price_parts : (a b : Bool) (rest : ℕ) → pick a 5 (pick b 6 rest) ≡ first_of (pick a 5 (pick b 6 0)) rest
+price_parts true b rest = refl
+price_parts false true rest = refl
+price_parts false false rest = refl
+
+-- the chain in the three parts that the code asks one after the other
+pub in_parts : (t : Terms) (existing : ℕ)
+    → refusal_of t existing ≡ first_of (terms_refusal t) (first_of (rate_refusal t) (amount_refusal t existing))
+unfolding price_refusal rate_refusal amount_refusal
+in_parts t existing =
+    halves t existing ∙ ap (λ (rest : ℕ). first_of (terms_refusal t) rest) (price_parts (no_rate t) (no_upper_rate t) _)
+
+-- so the first part that refuses decides
+module _ (t : Terms) (existing : ℕ) (terms : terms_refusal t ≡ 0) where
+  pub rates_decide : (rate_refusal t ≡ 0 → ⊥) → refusal_of t existing ≡ rate_refusal t
+  rates_decide h = in_parts t existing ∙ first_passes _ _ terms ∙ first_refuses _ _ h
+
+  pub amount_decides : rate_refusal t ≡ 0 → refusal_of t existing ≡ amount_refusal t existing
+  amount_decides rates = in_parts t existing ∙ first_passes _ _ terms ∙ first_passes _ _ rates
 
 -- the greatest refusal
 pub refusal_most : (t : Terms) (existing : ℕ) → refusal_of t existing ≤ last_of_terms

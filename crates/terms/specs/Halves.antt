@@ -1,4 +1,4 @@
--- Not rules: the chain of refusals in two halves, as the code decides it. proofs/Laws joins them.
+-- Not rules: the chain of refusals in parts, as the code decides them. proofs/Laws joins them.
 -- Assumes nothing.
 use Rattle.std.specs.Prelude.{ℕ}
 use Rattle.common.specs.Choice.{pick}
@@ -13,3 +13,11 @@ terms_refusal t = pick (wrong_option t) 1 (pick (wrong_pension_age t) 2 (pick (w
 unfoldable pub price_refusal : Terms → (existing : ℕ) → ℕ
 price_refusal t existing =
     pick (no_rate t) 5 (pick (no_upper_rate t) 6 (pick (wrong_amount t) 7 (pick (above_cap t existing) 8 0)))
+
+-- of these in turn those that look at a rate
+unfoldable pub rate_refusal : Terms → ℕ
+rate_refusal t = pick (no_rate t) 5 (pick (no_upper_rate t) 6 0)
+
+-- and those that look at the amount
+unfoldable pub amount_refusal : Terms → (existing : ℕ) → ℕ
+amount_refusal t existing = pick (wrong_amount t) 7 (pick (above_cap t existing) 8 0)

@@ -22,12 +22,13 @@ under e a h =
 pub returns-then-is_above : goal.returns-then-is_above
 unfolding above_cap
 returns-then-is_above c =
-    over c.args.existing.0 _
-    (rw c.of_pounds-cap.ensures at (sym c.is_above.ensures ∙ c.if-is_above.true))
+    c.if-is_above.true
+    ∙ over c.args.existing.0 _ (rw c.of_pounds-cap.ensures at (sym c.is_above.ensures ∙ c.if-is_above.true))
 
-pub returns : goal.returns
+pub returns-else-is_above : goal.returns-else-is_above
 unfolding above_cap
-returns c =
+returns-else-is_above c =
     let e = c.args.existing.0 in
     let low : ltb cap_pence e ≡ false = rw c.of_pounds-cap.ensures at (sym c.is_above.ensures ∙ c.if-is_above.false) in
-    c.is_above-2.ensures ∙ rw (c.less.ensures, c.of_pounds.ensures, c.of_pounds-cap.ensures) (under e _ low)
+    c.is_above-else-is_above.ensures
+    ∙ rw (c.less.ensures, c.of_pounds.ensures, c.of_pounds-cap.ensures) (under e _ low)
