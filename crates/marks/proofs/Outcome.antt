@@ -13,7 +13,8 @@ use Rattle.common.specs.Choice.{pick}
 use Rattle.common.proofs.Tests.{by_test}
 use Rattle.marks.specs.Counts.{last_or, paid_months, paid_through, final_gap}
 use Rattle.marks.specs.Lawful.{Lawful, FirstBad}
-use Rattle.marks.specs.Refusal.{refusing, mark_refusal, first_refusal}
+use Rattle.refusals.specs.Places.{refusing}
+use Rattle.marks.specs.Refusal.{mark_refusal, first_refusal}
 use Rattle.marks.specs.Reading.{refused_of, next_refusal_of, count_mark, step_by, step_of, read_on, reading_of, counts_of}
 use Rattle.marks.proofs.Lists.{by_the_last, length_last}
 use Rattle.marks.proofs.Counts.{counts_missed, counts_paid, counts_ended}

@@ -3,15 +3,8 @@
 use Rattle.std.specs.Prelude.{List, [], ◌∷◌, ◌++◌, ℕ, ◌*◌, ltb, eqb, length}
 use Rattle.common.specs.Choice.{pick}
 use Rattle.common.specs.Calendar.{months_in_year}
+use Rattle.refusals.specs.Places.{RefusedAt, refusing}
 use Rattle.marks.specs.Counts.{last_or, final_gap}
-
--- a refusal with its number and place; number 0 is none
-pub record RefusedAt : Type 0 where
-  pub number : ℕ
-  pub place : ℕ
-
-abbrev pub refusing : (number place : ℕ) → RefusedAt
-refusing number place = record { number = number; place = place }
 
 -- the refusal of a mark m after the marks before it, 0 for none: 11 above 2; 12 for a 0 or 1 after a 2, for a 0 that stands first, and
 -- for a 1 after more missed months than leave the contract open

@@ -1,16 +1,15 @@
--- `marks::read_marks` meets its contract. The loop's invariant: `r` is the reading of the marks before `i`. A refused reading stays so,
--- and a paid run is read as one.
+-- `marks::read_marks` meets its contract. The loop's invariant: `r` is the reading of the marks before `rest`.
 -- Assumes nothing.
-use mathlib.Core.Path.{◌≡◌}
-use Prim.Native.Nat.{◌≤◌, ◌*◌, ◌-◌}
-use lib.ListN.{length, take}
+use Prim.Native.Nat.{◌≤◌, ◌*◌}
+use lib.ListN.{length}
 use Rattle.common.specs.Calendar.{months_in_year}
-use Rattle.marks.specs.Reading.{reading_of}
+use Rattle.marks.specs.Reading.{as_read}
+use Rattle.marks.proofs.Runs.{ReadBefore}
 use Rattle.marks.proofs.read_marks.Given as goal
 
-abbrev pub invariant-loop-i : goal.invariant-loop-i
-invariant-loop-i l =
-    (l.i ≤ length l.marks) × (length l.marks ≤ months_in_year * l.term) × (l.r ≡ reading_of l.open_months (take l.i l.marks))
+abbrev pub invariant-loop-mark : goal.invariant-loop-mark
+invariant-loop-mark l =
+    (length l.marks ≤ months_in_year * l.term) × ReadBefore l.open_months l.marks l.rest (as_read l.r)
 
-abbrev pub decreases-loop-i : goal.decreases-loop-i
-decreases-loop-i l = length l.marks - l.i
+abbrev pub decreases-loop-mark : goal.decreases-loop-mark
+decreases-loop-mark l = length l.rest
