@@ -1,24 +1,22 @@
 -- What callers use of the refusals, without opening them: refused or not, and what then holds.
 -- Assumes nothing.
 use mathlib.Core.List.{List}
-use mathlib.Core.Path.{◌≡◌, refl, sym, ap, ◌∙◌}
+use mathlib.Core.Path.{◌≡◌, sym, ap, ◌∙◌}
 use Prim.Native.Nat.{ℕ, ◌≤◌}
 use native.Mathlib.Decide.{ℕ_discrete}
 use native.Mathlib.Omega.{arith}
 use borrow.Author.Tests.{eq-eqb, ne_eqb}
 use lib.ListN.{length, take}
-use Rattle.common.proofs.Choice.{chosen_number}
 use Rattle.scheme.specs.Scheme.{open_months, most_marks}
 use Rattle.terms.specs.declared.Terms.{Terms}
 use Rattle.terms.specs.Rules.{refusal_of}
 use Rattle.election.specs.TermsAccepted.{TermsAccepted}
 use Rattle.election.proofs.Laws.{terms_accepted}
 use Rattle.marks.specs.Lawful.{LawfulFor}
-use Rattle.marks.specs.Refusal.{RefusedAt, refusing, marks_refusal}
+use Rattle.refusals.specs.Places.{RefusedAt, refusing}
+use Rattle.marks.specs.Refusal.{marks_refusal}
 use Rattle.marks.proofs.Term.{marks_unrefused, marks_lawful, lawful_for_take}
-use Rattle.examination.specs.declared.Examined.{Examined}
 use Rattle.examination.specs.Refusal.{settle_refusal}
-use Rattle.examination.specs.Examine.{refused_examined, accepted_examined, examined_of}
 
 module _ (t : Terms) (ms : List ℕ) where
   -- the terms refuse first
@@ -60,18 +58,3 @@ module _ (t : Terms) (ms : List ℕ) where
   unfolding settle_refusal
   refusal_take z i =
       rw (eq-eqb _ _ (terms_unrefused z), marks_unrefused open_months t.term (take i ms) (lawful_for_take open_months t.term ms i (settled_marks z)))
-
-  -- the two outcomes of an examination
-  pub examined_refused : ((settle_refusal t ms).number ≡ 0 → ⊥) → examined_of t ms ≡ refused_examined (settle_refusal t ms)
-  unfolding examined_of
-  examined_refused h = rw (ne_eqb _ _ h)
-
-  pub examined_accepted : (settle_refusal t ms).number ≡ 0 → examined_of t ms ≡ accepted_examined t ms
-  unfolding examined_of
-  examined_accepted h = rw (eq-eqb _ _ h)
-
-  pub examined_refusal : (examined_of t ms).refusal ≡ (settle_refusal t ms).number
-  unfolding examined_of
-  examined_refusal =
-      chosen_number (λ (e : Examined). e.refusal) (settle_refusal t ms).number (accepted_examined t ms)
-      (refused_examined (settle_refusal t ms)) refl refl

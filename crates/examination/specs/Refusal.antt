@@ -5,7 +5,8 @@ use Rattle.common.specs.Choice.{pick}
 use Rattle.scheme.specs.Scheme.{open_months}
 use Rattle.terms.specs.declared.Terms.{Terms}
 use Rattle.terms.specs.Rules.{refusal_of}
-use Rattle.marks.specs.Refusal.{RefusedAt, refusing, marks_refusal}
+use Rattle.refusals.specs.Places.{RefusedAt, refusing}
+use Rattle.marks.specs.Refusal.{marks_refusal}
 
 -- the terms are refused as by a quote with nothing existing, which has no place; where they pass, the marks decide
 unfoldable pub settle_refusal : Terms → (marks : List ℕ) → RefusedAt

@@ -4,82 +4,63 @@ use mathlib.Core.List.{List}
 use mathlib.Core.Path.{◌≡◌, sym, ap, ◌∙◌}
 use Prim.Native.Nat.{ℕ}
 use native.Mathlib.Omega.{arith}
+use Rattle.std.proofs.lemmas.Result.{err_from_is_err_and}
 use Rattle.scheme.specs.Scheme.{open_months}
-use Rattle.election.proofs.Laws.{terms_accepted}
-use Rattle.election.specs.Price.{contribution_of}
-use Rattle.election.specs.LookedUp.{rates_of}
-use Rattle.terms.specs.Rules.{refusal_of}
-use Rattle.election.specs.declared.TableRates.{TableRates}
+use Rattle.refusals.specs.declared.Refusal.{Refusal}
+use Rattle.refusals.specs.Numbers.{refusal_number}
+use Rattle.refusals.specs.Places.{RefusedAt, refusing}
+use Rattle.refusals.proofs.Numbers.{refusal_positive}
+use Rattle.money.specs.Money.{pension}
+use Rattle.money.specs.declared.PensionPence.{PensionPence}
 use Rattle.terms.specs.declared.Terms.{Terms}
+use Rattle.terms.specs.Rules.{refusal_of}
+use Rattle.marks.specs.Reading.{ReadSoFar, as_read, refused_of, marks_reading, status_from}
 use Rattle.marks.proofs.StatusOf.{status_lawful}
 use Rattle.marks.proofs.Term.{marks_counts, marks_number, marks_place}
-use Rattle.marks.specs.Refusal.{RefusedAt, refusing}
-use Rattle.marks.specs.Reading.{marks_reading, status_from}
-use Rattle.marks.specs.declared.Reading.{Reading}
-use Rattle.money.specs.Money.{pension}
-use Rattle.money.specs.Contribution.{contribution}
-use Rattle.money.specs.declared.ContributionPence.{ContributionPence}
-use Rattle.money.specs.declared.PensionPence.{PensionPence}
-use Rattle.examination.proofs.Laws.{refused_by_terms, refused_by_marks, settled_marks, examined_refused, examined_accepted}
 use Rattle.examination.specs.Refusal.{settle_refusal}
-use Rattle.examination.specs.Examine.{refused_examined, examined_of}
-use Rattle.examination.specs.declared.Examined.{Examined}
-use Rattle.examination.proofs.examine.Goals.{After-refusal_of-refusal}
+use Rattle.examination.proofs.Laws.{refused_by_terms, refused_by_marks, settled_marks}
 use Rattle.examination.proofs.examine.Goals as goal
 
 -- the terms are refused as with nothing existing
-told : (t : Terms) {n : ℕ} {nothing : PensionPence} → n ≡ refusal_of t nothing.0 → nothing ≡ pension 0 → n ≡ refusal_of t 0
-told t e z = e ∙ ap (λ (p : PensionPence). refusal_of t p.0) z
+with_nothing : (t : Terms) {n : ℕ} {nothing : PensionPence} → n ≡ refusal_of t nothing.0 → nothing ≡ pension 0 → n ≡ refusal_of t 0
+with_nothing t e z = e ∙ ap (λ (p : PensionPence). refusal_of t p.0) z
 
-by_terms : (t : Terms) (ms : List ℕ) {n : ℕ} → n ≡ refusal_of t 0 → (n ≡ 0 → ⊥) → refused_examined (refusing n 0) ≡ examined_of t ms
-by_terms t ms is some =
-    let refuses : refusal_of t 0 ≡ 0 → ⊥ = λ z. some (is ∙ z) in
-    let by = refused_by_terms t ms refuses in
-    rw (is, examined_refused t ms (λ z. refuses (sym (ap (λ (r : RefusedAt). r.number) by) ∙ z)), by)
+by_terms : (t : Terms) (ms : List ℕ) (r : Refusal) → refusal_number r ≡ refusal_of t 0 → refusing (refusal_number r) 0 ≡ settle_refusal t ms
+by_terms t ms r is =
+    ap (λ n. refusing n 0) is ∙ sym (refused_by_terms t ms (λ z. omega (arith, refusal_positive r, is, z)))
 
 -- the reading has the refusal of the marks
-read_is : (t : Terms) (ms : List ℕ) {r : Reading} → refusal_of t 0 ≡ 0 → r ≡ marks_reading open_months t.term ms
+by_marks : (t : Terms) (ms : List ℕ) (r : ReadSoFar) → refusal_of t 0 ≡ 0 → r ≡ marks_reading open_months t.term ms
     → refusing r.refusal r.place ≡ settle_refusal t ms
-read_is t ms pass e =
+by_marks t ms r pass e =
     rw (e, marks_number open_months t.term ms, marks_place open_months t.term ms) (sym (refused_by_marks t ms pass))
 
-by_marks : (t : Terms) (ms : List ℕ) {r : Reading} → refusal_of t 0 ≡ 0 → r ≡ marks_reading open_months t.term ms → (r.refusal ≡ 0 → ⊥)
-    → refused_examined (refusing r.refusal r.place) ≡ examined_of t ms
-by_marks t ms pass e some =
-    let is = read_is t ms pass e in
-    ap refused_examined is ∙ sym (examined_refused t ms (λ z. some (ap (λ (x : RefusedAt). x.number) is ∙ z)))
+pub returns-in_err-election-clause-refusal : goal.returns-in_err-election-clause-refusal
+returns-in_err-election-clause-refusal c =
+    let p = err_from_is_err_and c.from_residual.result c.from_residual.ensures.1 in
+    rw (p.1, p.2) (by_terms c.args.t _ c.in_err-election.field-0.0 (with_nothing c.args.t c.in_err-election.ensures.refusal c.none.ensures))
 
-whole : (t : Terms) (ms : List ℕ) {k : ContributionPence} {rates : TableRates} {r : Reading} {s : ℕ} → refusal_of t 0 ≡ 0
-    → k ≡ contribution (contribution_of t) → rates ≡ rates_of t → r ≡ marks_reading open_months t.term ms → r.refusal ≡ 0
-    → s ≡ status_from t.term r
-    → ◌≡◌ {A = Examined}
-    (record { refusal = 0; place = 0; contribution = k; status = s; paid_months = r.paid_months; rates = rates }) (examined_of t ms)
-whole t ms pass cost are read none s =
-    let zero_refusal = sym (ap (λ (x : RefusedAt). x.number) (read_is t ms pass read)) ∙ none in
-    let law = settled_marks t ms zero_refusal in
-    let status = s ∙ ap (status_from t.term) read ∙ status_lawful open_months t.term ms law in
-    rw (status, read, marks_counts open_months t.term ms law, cost, are, examined_accepted t ms zero_refusal)
+pub returns-in_err-reading-clause-refusal : goal.returns-in_err-reading-clause-refusal
+returns-in_err-reading-clause-refusal c =
+    let p = err_from_is_err_and c.from_residual-in_err-reading.result c.from_residual-in_err-reading.ensures.1 in
+    let pass = sym (with_nothing c.args.t c.in_ok-election.ensures.refusal c.none.ensures) in
+    let e = c.in_err-reading.field-0.0 in
+    rw (p.1, p.2) (by_marks c.args.t _ (refused_of (refusal_number e.refusal) e.place) pass c.in_err-reading.ensures)
 
-refusal_is : (c : After-refusal_of-refusal)
-    → c.refusal_of-refusal.result ≡ refusal_of c.args.t 0
-refusal_is c = told _ c.refusal_of-refusal.ensures c.none.ensures
+pub returns-clause-refusal : goal.returns-clause-refusal
+returns-clause-refusal c =
+    by_marks c.args.t _ (as_read c.in_ok-reading.reading) (sym (with_nothing c.args.t c.in_ok-election.ensures.refusal c.none.ensures))
+    c.in_ok-reading.ensures
 
-pub refusal_of-refusal-requires : goal.refusal_of-refusal-requires
-refusal_of-refusal-requires c = c.rates_of-rates.ensures
-
-pub returns-then-refusal-ne0 : goal.returns-then-refusal-ne0
-returns-then-refusal-ne0 c = c.refused_examination.ensures ∙ by_terms _ _ (refusal_is (goal.at.returns-then-refusal-ne0 c).After-refusal_of-refusal) c.if-refusal-ne0.true
-
-pub returns-then-read-ne0 : goal.returns-then-read-ne0
-returns-then-read-ne0 c =
-    c.refused_examination-then-read-ne0.ensures ∙ by_marks _ _ (sym (refusal_is (goal.at.returns-then-read-ne0 c).After-refusal_of-refusal) ∙ c.if-refusal-ne0.false) c.read_marks-read.ensures c.if-read-ne0.true
-
-pub cost-contribution-requires : goal.cost-contribution-requires
-cost-contribution-requires c =
-    let pass = sym (refusal_is (goal.at.cost-contribution-requires c).After-refusal_of-refusal) ∙ c.if-refusal-ne0.false in
-    (omega (arith, (terms_accepted _ _ pass).under_cap), c.rates_of-rates.ensures)
-
-pub returns : goal.returns
-returns c =
-    whole _ _ (sym (refusal_is (goal.at.returns c).After-refusal_of-refusal) ∙ c.if-refusal-ne0.false) c.cost-contribution.ensures c.rates_of-rates.ensures
-    c.read_marks-read.ensures c.if-read-ne0.false c.status-status.ensures
+pub returns-clause-told : goal.returns-clause-told
+returns-clause-told c =
+    let t = c.args.t in
+    let read = c.in_ok-reading.ensures in
+    let pass = sym (with_nothing t c.in_ok-election.ensures.refusal c.none.ensures) in
+    let none = by_marks t c.args.marks.now (as_read c.in_ok-reading.reading) pass read in
+    let law = settled_marks t c.args.marks.now (sym (ap (λ (r : RefusedAt). r.number) none)) in
+    record {
+      terms = c.in_ok-election.ensures.terms;
+      status = c.status.ensures ∙ ap (status_from t.term) read ∙ status_lawful open_months t.term c.args.marks.now law;
+      paid = ap (λ (r : ReadSoFar). r.paid_months) (read ∙ marks_counts open_months t.term c.args.marks.now law);
+    }
