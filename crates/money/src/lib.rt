@@ -12,11 +12,11 @@ ghost use Rattle.money.specs.Contribution.{contribution};
 use common::MONTHS_IN_YEAR;
 
 // Pence of pension a year.
-#[derive(Clone, Copy)]
+#[derive(Clone, Copy, Debug, PartialEq, Eq, PartialOrd, Ord, Default)]
 pub struct PensionPence(pub u64);
 
 // Pence of contribution: a month's, or the whole lump sum.
-#[derive(Clone, Copy)]
+#[derive(Clone, Copy, Debug, PartialEq, Eq, PartialOrd, Ord, Default)]
 pub struct ContributionPence(pub u64);
 
 impl PensionPence {

@@ -1,68 +1,29 @@
--- Eight marks looked at as one: what each differs from 1 by, or-ed together, is 0 where a paid run of eight begins, and nowhere else.
+-- Eight marks read as one number: where it is that of eight 1s, a paid run goes on past them.
 -- Assumes nothing.
-use mathlib.Core.Bool.{true, ◌&&◌, and_assoc, and-true}
-use mathlib.Core.List.{List}
-use mathlib.Core.Path.{◌≡◌}
-use Prim.Native.Nat.{ℕ, suc, ◌+◌, ◌≤◌, ◌<◌}
-use native.Mathlib.Omega.{arith}
-use borrow.Author.Tests.{leb-true, eqb-true, eqb-false, ne_eqb}
-use lib.Bits.{bit_or, bit_xor, or_add_and, xor_add_and, and_le_r, and_mask}
-use lib.Dec.{leb, eqb, leb-zero, leb-suc-zero, leb-suc-suc}
-use lib.ListN.{length, drop, get_or}
-use lib.Seq.{drop-drop}
-use Rattle.common.proofs.Tests.{by_test}
+use Rattle.std.proofs.Common.{◌≡◌, zero, suc, [], sym, ap, ◌∙◌, List, ◌∷◌, ◌++◌, ℕ, ◌+◌, ◌≤◌, ◌<◌, length, take, drop, get_or, length-take, take-append-drop, arith}
+use Rattle.std.specs.Int.{w64, from_le_bytes, to_le_bytes}
+use Rattle.std.proofs.lemmas.Nat.{le_bytes_8}
 use Rattle.paid_runs.specs.PaidRun.{paid_run}
-use Rattle.paid_runs.proofs.PaidRun.{run_goes_on, run_stops, run_past}
 
--- or-ed numbers are 0 where both are
-or_none : (a b : ℕ) → eqb (bit_or a b) 0 ≡ (eqb a 0 && eqb b 0)
-or_none a b =
-    by_test (eqb a 0)
-    (λ e. rw (eqb-true a 0 e))
-    (λ e. rw (e, ne_eqb (bit_or a b) 0 (λ z. eqb-false a 0 e (omega (arith, or_add_and a b, and_le_r a b, z)))))
+-- eight 1s in front of a list
+abbrev ones_then : List ℕ → List ℕ
+ones_then l = 1 ∷ (1 ∷ (1 ∷ (1 ∷ (1 ∷ (1 ∷ (1 ∷ (1 ∷ l)))))))
 
--- and xor-ed with 1, a number is 0 where it is 1
-xor_none : (m : ℕ) → eqb (bit_xor m 1) 0 ≡ eqb m 1
-xor_none m =
-    by_test (eqb m 1)
-    (λ e. rw (eqb-true m 1 e))
-    (λ e. rw (e, ne_eqb (bit_xor m 1) 0 (λ z. eqb-false m 1 e (omega (arith, xor_add_and m 1, and_mask m 1, z)))))
+ones_passed : (l : List ℕ) → paid_run (ones_then l) ≡ 8 + paid_run l
+unfolding paid_run
+ones_passed l = omega arith
 
--- what a mark differs from 1 by
-abbrev off : List ℕ → ℕ → ℕ
-off ms i = bit_xor (get_or ms i 0) 1
+taken_below : (n : ℕ) (ms : List ℕ) (i : ℕ) → ((k : ℕ) → get_or ms k 0 < 256) → get_or (take n ms) i 0 < 256
+taken_below zero ms i h = omega arith
+taken_below (suc n) [] i h = omega arith
+taken_below (suc n) (m ∷ ms) zero h = h 0
+taken_below (suc n) (m ∷ ms) (suc i) h = taken_below n ms i (λ k. h (suc k))
 
-module _ (ms : List ℕ) (i : ℕ) (h : i + 8 ≤ length ms) where
-  -- a run is longer than n months where its first month is paid and the rest has at least n
-  longer : (k n : ℕ) → k < 8
-      → leb (suc n) (paid_run (drop (i + k) ms)) ≡ (eqb (get_or ms (i + k) 0) 1 && leb n (paid_run (drop (i + suc k) ms)))
-  longer k n small =
-      let next : i + suc k ≡ i + k + 1 = omega arith in
-      let less : i + k < length ms = omega arith in
-      by_test (eqb (get_or ms (i + k) 0) 1)
-      (λ e. rw (e, next, run_goes_on ms (i + k) less (eqb-true _ 1 e)) (leb-suc-suc n _))
-      (λ e. rw (e, run_stops ms (i + k) less (eqb-false _ 1 e)) (leb-suc-zero n))
-
-  pub run_of_eight : eqb (bit_or
-      (bit_or (bit_or (bit_or (off ms i) (off ms (i + 1))) (off ms (i + 2))) (off ms (i + 3)))
-      (bit_or (bit_or (bit_or (off ms (i + 4)) (off ms (i + 5))) (off ms (i + 6))) (off ms (i + 7)))) 0
-      ≡ leb 8 (paid_run (drop i ms))
-  run_of_eight =
-      let none : i + 0 ≡ i = omega arith in
-      let first = rw none at (longer 0 7 (omega arith)) in
-      rw (
-        first,
-        longer 1 6 (omega arith),
-        longer 2 5 (omega arith),
-        longer 3 4 (omega arith),
-        longer 4 3 (omega arith),
-        longer 5 2 (omega arith),
-        longer 6 1 (omega arith),
-        longer 7 0 (omega arith),
-        leb-zero,
-      )
-      (simp (or_none, xor_none, and_assoc, and-true))
-
--- past them the run ends where it did
-pub past_eight : (ms : List ℕ) (i : ℕ) → leb 8 (paid_run (drop i ms)) ≡ true → i + 8 + paid_run (drop (i + 8) ms) ≡ i + paid_run (drop i ms)
-past_eight ms i e = rw (← drop-drop 8 i ms) (omega (arith, run_past 8 (drop i ms) (leb-true 8 _ e)))
+pub past_eight : (ms eight : List ℕ) (n : ℕ) → eight ≡ take 8 ms → 8 ≤ length ms → ((i : ℕ) → get_or ms i 0 < 256)
+    → n ≡ from_le_bytes w64 eight → n ≡ 0x0101_0101_0101_0101 → paid_run ms ≡ 8 + paid_run (drop 8 ms)
+past_eight ms eight n front room bytes read e =
+    let long : length eight ≡ 8 = ap length front ∙ length-take 8 ms ∙ omega arith in
+    let ones : to_le_bytes w64 n ≡ eight = le_bytes_8 eight n long (λ i. rw front (taken_below 8 ms i bytes)) read in
+    let whole : take 8 ms ++ drop 8 ms ≡ ms = take-append-drop 8 ms in
+    let all : ones_then (drop 8 ms) ≡ ms = ap (λ (l : List ℕ). l ++ drop 8 ms) ((rw e at ones) ∙ front) ∙ whole in
+    ap paid_run (sym all) ∙ ones_passed (drop 8 ms)

@@ -1,46 +1,41 @@
 // Where a run of paid months ends, found eight marks at a time.
 #![tactic(auto)]
 
-ghost use Rattle.std.specs.Prelude.{◌≡◌, ◌+◌, ◌≤◌, leb, length, drop};
+ghost use Rattle.std.specs.Prelude.{◌≡◌, ◌+◌, ◌==◌, drop};
+ghost use Rattle.std.specs.List.{prefix_len};
 ghost use Rattle.paid_runs.specs.PaidRun.{paid_run};
 
-// Whether the eight marks from an index on are all paid. They are compared as one.
-fn eight_paid(marks: &[u8], i: usize) -> bool
-    requires { i + 8 ≤ length marks.now }
-    ensures { result ≡ leb 8 (paid_run (drop i marks.now)) }
+// Eight paid marks, read as one number.
+const EIGHT_PAID: u64 = 0x0101_0101_0101_0101;
+
+// How many 1s stand first, looked at one by one.
+fn ones_first(marks: &[u8]) -> usize
+    ensures { result ≡ prefix_len (λ m. m == 1) marks.now }
 {
-    let a = (marks[i] ^ 1) | (marks[i + 1] ^ 1) | (marks[i + 2] ^ 1) | (marks[i + 3] ^ 1);
-    let b = (marks[i + 4] ^ 1) | (marks[i + 5] ^ 1) | (marks[i + 6] ^ 1) | (marks[i + 7] ^ 1);
-    (a | b) == 0
+    marks.iter().take_while(|m| **m == 1).count()
 }
 
-// Past eights of paid months that stand from an index on. How many is left free: the run's end is the same from there.
-fn past_eights(marks: &[u8], from: usize) -> usize
-    ensures { result + paid_run (drop result marks.now) ≡ from + paid_run (drop from marks.now) }
+// How many paid months stand first. Eights of them are passed as long as they go on: each is compared as one number.
+fn paid_first(marks: &[u8]) -> usize
+    ensures { result ≡ paid_run marks.now }
 {
-    let mut i = from;
-    while i < marks.len() {
-        if marks.len() - i < 8 {
-            return i;
+    let mut rest = marks;
+    while let Some((eight, behind)) = rest.split_first_chunk::<8>() {
+        let number = u64::from_le_bytes(*eight);
+        if number != EIGHT_PAID {
+            break;
         }
-        if !eight_paid(marks, i) {
-            return i;
-        }
-        i += 8;
+        rest = behind;
     }
-    i
+    marks.len() - rest.len() + ones_first(rest)
 }
 
 // Where the paid months that stand from an index on end.
 pub fn run_end(marks: &[u8], from: usize) -> usize
     ensures { result ≡ from + paid_run (drop from marks.now) }
 {
-    let mut i = past_eights(marks, from);
-    while i < marks.len() {
-        if marks[i] != 1 {
-            return i;
-        }
-        i += 1;
+    if from >= marks.len() {
+        return from;
     }
-    i
+    from + paid_first(&marks[from..])
 }

@@ -2,7 +2,7 @@
 // Callers go by the laws of proofs/InForce and proofs/Laws, so that another rounding can stand behind the name `nearest`.
 #![tactic(auto)]
 
-ghost use Rattle.std.specs.Prelude.{◌≡◌, ◌%◌};
+ghost use Rattle.std.specs.Prelude.{◌≡◌};
 ghost use Rattle.rounding.specs.HalfEven.{half_even};
 ghost use Rattle.rounding.specs.Nearest.{half_up, nearest, twelfths, blend};
 
@@ -13,21 +13,11 @@ use common::MONTHS_IN_YEAR;
 pub fn half_up(n: u64, d: u64) -> u64
     ensures { result ≡ half_up n d }
 {
-    if d == 0 {
-        return 0;
-    }
     let half = d - d / 2;
-    if n < half {
+    if d == 0 || n < half {
         return 0;
     }
     (n - half) / d + 1
-}
-
-// 1 for an odd number, 0 for an even one.
-fn odd(n: u64) -> u64
-    ensures { result ≡ n % 2 }
-{
-    n % 2
 }
 
 // n ÷ d to the nearest whole number, a half going to the even one; 0 where d is 0. Above an odd number the rest counts for one more: that
@@ -40,10 +30,8 @@ pub fn half_even(n: u64, d: u64) -> u64
     }
     let low = n / d;
     let rest = n % d;
-    if rest + odd(low) <= d - rest {
-        return low;
-    }
-    low + 1
+    let odd = low % 2;
+    if rest + odd <= d - rest { low } else { low + 1 }
 }
 
 // n ÷ d by the rule that contributions, whole-year credits, month values and the combining of two tables go by.
@@ -57,11 +45,8 @@ pub fn nearest(n: u64, d: u64) -> u64
 pub fn twelfths(m: u32, lo: u32, hi: u32) -> u64
     ensures { result ≡ twelfths m lo hi }
 {
-    if m < MONTHS_IN_YEAR {
-        let rest = MONTHS_IN_YEAR - m;
-        return rest as u64 * lo as u64 + m as u64 * hi as u64;
-    }
-    m as u64 * hi as u64
+    let rest = MONTHS_IN_YEAR.saturating_sub(m);
+    rest as u64 * lo as u64 + m as u64 * hi as u64
 }
 
 // The same whole, to the nearest.

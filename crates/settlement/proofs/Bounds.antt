@@ -21,7 +21,8 @@ use Rattle.election.specs.Price.{contribution_of}
 use Rattle.terms.proofs.Laws.{refusal_most}
 use Rattle.election.proofs.Laws.{terms_accepted, contribution_most, monthly_most, contribution_least}
 use Rattle.marks.specs.Counts.{paid_months}
-use Rattle.marks.specs.Refusal.{RefusedAt, marks_refusal}
+use Rattle.refusals.specs.Places.{RefusedAt}
+use Rattle.marks.specs.Refusal.{marks_refusal}
 use Rattle.marks.specs.Status.{status_of}
 use Rattle.marks.proofs.StatusOf.{not_lump, status_most, refunded_early}
 use Rattle.marks.proofs.Term.{too_many_marks, few_refused, marks_unrefused, marks_lawful, marks_counts, marks_within}

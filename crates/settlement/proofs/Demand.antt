@@ -18,7 +18,7 @@ use Rattle.terms.specs.declared.Terms.{Terms}
 use Rattle.terms.specs.Rules.{refusal_of}
 use Rattle.election.specs.Price.{contribution_of}
 use Rattle.election.proofs.Laws.{terms_accepted}
-use Rattle.marks.specs.Refusal.{RefusedAt}
+use Rattle.refusals.specs.Places.{RefusedAt}
 use Rattle.marks.specs.Lawful.{Lawful, LawfulFor}
 use Rattle.marks.proofs.Runs.{all_paid_lawful}
 use Rattle.marks.proofs.Term.{marks_unrefused}

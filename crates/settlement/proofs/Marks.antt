@@ -7,7 +7,8 @@ use native.Mathlib.Omega.{arith}
 use Rattle.scheme.specs.Scheme.{open_months}
 use Rattle.terms.specs.declared.Terms.{Terms}
 use Rattle.terms.specs.Rules.{refusal_of}
-use Rattle.marks.specs.Refusal.{RefusedAt, refusing, marks_refusal}
+use Rattle.refusals.specs.Places.{RefusedAt, refusing}
+use Rattle.marks.specs.Refusal.{marks_refusal}
 use Rattle.marks.proofs.Outcome.{bad_number}
 use Rattle.marks.proofs.Term.{too_many_marks, bad_refused, few_refused, marks_unrefused}
 use Rattle.examination.specs.Refusal.{settle_refusal}

@@ -1,7 +1,8 @@
 -- The published tables meet what the theorems on credits and the code ask of rates, and what they earn fits 32 bits.
 -- Assumes nothing.
 use mathlib.Core.List.{List}
-use mathlib.Core.Path.{◌≡◌, refl}
+use mathlib.Core.Path.{◌≡◌, refl, sym, ap, ◌∙◌}
+use Rattle.std.specs.Prelude.{Some, None}
 use Prim.Native.Nat.{ℕ, ◌+◌, ◌/◌, ◌≤◌, ◌<◌, ◌^◌}
 use native.Mathlib.Nat.{mul-le-mul}
 use native.Mathlib.Omega.{arith}
@@ -15,7 +16,7 @@ use Rattle.election.specs.Price.{contribution_at, contribution_in}
 use Rattle.election.specs.LookedUp.{rates_of}
 use Rattle.election.specs.TermsAccepted.{TermsAccepted}
 use Rattle.terms.proofs.Laws.{monthly_rate}
-use Rattle.election.proofs.Laws.{upper_rate_odd}
+use Rattle.election.proofs.Laws.{upper_rate_is, upper_rate_none}
 use Rattle.scheme.specs.Scheme.{step_pounds, pounds_in_pence, cap_pence, most_marks}
 use Rattle.years.specs.Years.{own_contribution}
 use Rattle.credit.specs.Credit.{credit_over, credit_in}
@@ -53,10 +54,15 @@ module _ (t : Terms) (a : TermsAccepted t 0) (monthly : 0 < t.term) where
     pub lower_rate_asked : (rates.lower ≡ rate_of t.option t.pnpa_years t.age t.term) × ((0 < rates.lower) × (pounds_in_pence t.amount < 2 ^ 32))
     lower_rate_asked = rw are (monthly_rate t t.pnpa_years monthly, (a.lower_rate, amount_fits))
 
-    pub upper_rate_asked : (t.pnpa_months ≡ 0 → ⊥)
-        → (rates.upper ≡ rate_of t.option (t.pnpa_years + 1) t.age t.term) × ((0 < rates.upper) × (pounds_in_pence t.amount < 2 ^ 32))
-    upper_rate_asked odd =
-        rw (are, upper_rate_odd t odd) (monthly_rate t (t.pnpa_years + 1) monthly, (a.upper_rate odd, amount_fits))
+    pub upper_rate_asked : (rate : ℕ) → rates.upper ≡ Some rate
+        → (rate ≡ rate_of t.option (t.pnpa_years + 1) t.age t.term) × ((0 < rate) × (pounds_in_pence t.amount < 2 ^ 32))
+    upper_rate_asked rate e =
+        let upper = upper_rate_is t rate (sym (ap (λ (r : TableRates). r.upper) are) ∙ e) in
+        rw upper.1 (monthly_rate t (t.pnpa_years + 1) monthly, (a.upper_rate upper.0, amount_fits))
+
+    -- only odd months have an upper rate
+    pub no_upper_rate_asked : rates.upper ≡ None → t.pnpa_months ≡ 0
+    no_upper_rate_asked e = upper_rate_none t (sym (ap (λ (r : TableRates). r.upper) are) ∙ e)
 
   -- what the marks of at most the longest term earn in a table of which no year passes the amount fits 32 bits
   pub credit_fits : (years ms : List ℕ) → length ms ≤ most_marks → ((n : ℕ) → get_or years n 0 ≤ pounds_in_pence t.amount)

@@ -1,15 +1,17 @@
 -- Document 01, "What each operation gives", Settle.
 -- Assumes nothing.
-use Rattle.std.specs.Prelude.{Bool, true, false, List, ℕ, ◌*◌, eqb}
+use Rattle.std.specs.Prelude.{Result, Ok, Err, List, ℕ, ◌*◌, eqb}
 use Rattle.common.specs.Choice.{pick}
 use Rattle.scheme.specs.Scheme.{pounds_in_pence, open_months}
 use Rattle.terms.specs.declared.Terms.{Terms}
 use Rattle.election.specs.Price.{contribution_of}
+use Rattle.refusals.specs.declared.Refused.{Refused}
+use Rattle.refusals.specs.Numbers.{refusal_number}
 use Rattle.marks.specs.Counts.{paid_months}
+use Rattle.marks.specs.Numbers.{status_number}
 use Rattle.marks.specs.Status.{status_of}
 use Rattle.examination.specs.Refusal.{settle_refusal}
 use Rattle.settlement.specs.declared.Settlement.{Settlement}
-use Rattle.settlement.specs.declared.Settlement.TheVariants.{Refused, Settled}
 use Rattle.settlement.specs.Credit.{credit_of}
 
 -- what a settlement gives, in document 01's numbers; refusal 0 is none
@@ -54,12 +56,14 @@ settle_of t marks =
     (refused_numbers (settle_refusal t marks).number (settle_refusal t marks).place)
 
 -- document 01's numbers for each case of an answer
-abbrev pub numbers_of_settlement : Settlement → SettleNumbers
-numbers_of_settlement (Refused n i) = refused_numbers n i
-numbers_of_settlement (Settled own s held back) =
-    record { refusal = 0; place = 0; contribution = own.0; status = s; credit = held.0; refund = back.0 }
-
--- whether an answer is a refusal
-abbrev pub settlement_is_refused : Settlement → Bool
-settlement_is_refused (Refused n i) = true
-settlement_is_refused (Settled own s held back) = false
+abbrev pub numbers_of_settlement : Result Settlement Refused → SettleNumbers
+numbers_of_settlement (Err e) = refused_numbers (refusal_number e.refusal) e.place
+numbers_of_settlement (Ok s) =
+    record {
+      refusal = 0;
+      place = 0;
+      contribution = s.contribution.0;
+      status = status_number s.status;
+      credit = s.credit.0;
+      refund = s.refund.0;
+    }

@@ -1,54 +1,82 @@
 -- A field read a byte at a time.
 -- Assumes nothing.
-use mathlib.Core.List.{List}
-use mathlib.Core.Path.{◌≡◌}
-use Prim.Native.Nat.{ℕ, suc, ◌+◌, ◌*◌, ◌-◌, ◌<◌, ◌≤◌}
-use native.Mathlib.Numerals.{add-one}
-use borrow.Author.Tests.{lt-ltb, le-ltb, eq-eqb, ne_eqb}
-use lib.ListN.{length, drop, get_or, drop_of_length-le}
-use lib.Seq.{drop-cons}
+use Rattle.std.proofs.Common.{◌≡◌, refl, sym, ◌∙◌, List, ◌∷◌, [], ℕ, ◌+◌, ◌*◌, ◌-◌, ◌<◌, ◌≤◌, ◌==◌, not, nat_lt, length, length-drop, take, drop, get_or, add-one, one-add, add-zero, arith, inl, inr, Some, None}
+use Rattle.std.specs.Char.{IsAsciiDigit, IsNotAsciiDigit}
+use Rattle.std.specs.List.{position, position_or_len}
+use Rattle.std.proofs.lemmas.Option.{none-some, cond_some}
+use Rattle.std.proofs.lemmas.List.Quantifiers.{position-Some}
+use borrow.Author.Tests.{lt-ltb, le-ltb, eq-eqb, ne_eqb, ltb-false}
+use lib.Dec.{eqb}
+use lib.ListN.{drop_of_length-le}
+use lib.Seq.{drop-cons, get_or-drop, take-length}
+use Rattle.common.proofs.Tests.{by_test, never}
 use Rattle.text.specs.Field.{digits_of, zero_of, field_of}
-use Rattle.text.specs.declared.Field.TheVariants.{Number, NoNumber}
 
 module _ (l : List ℕ) (i v : ℕ) where
-  pub digit_more : i < length l → 48 ≤ get_or l i 0 → get_or l i 0 ≤ 57 → v ≤ 99999999
+  pub digit_more : i < length l → IsAsciiDigit (get_or l i 0) → v ≤ 99999999
       → digits_of v (drop i l) ≡ digits_of (v * 10 + (get_or l i 0 - 48)) (drop (i + 1) l)
   unfolding digits_of
-  digit_more h low high small = rw (drop-cons l i 0, add-one, le-ltb (get_or l i 0) 48 low, le-ltb 57 (get_or l i 0) high, le-ltb 99999999 v small)
+  digit_more h d small = rw (drop-cons l i 0, add-one, le-ltb (get_or l i 0) 48 d.0, le-ltb 57 (get_or l i 0) d.1, le-ltb 99999999 v small)
 
-  pub digit_low : i < length l → get_or l i 0 < 48 → digits_of v (drop i l) ≡ NoNumber
+  pub no_digit : i < length l → IsNotAsciiDigit (get_or l i 0) → digits_of v (drop i l) ≡ None
   unfolding digits_of
-  digit_low h low = rw (drop-cons l i 0, lt-ltb (get_or l i 0) 48 low)
+  no_digit h (inl low) = rw (drop-cons l i 0, lt-ltb (get_or l i 0) 48 low)
+  no_digit h (inr high) = rw (drop-cons l i 0, le-ltb (get_or l i 0) 48 (omega arith), lt-ltb 57 (get_or l i 0) high)
 
-  pub digit_high : i < length l → 48 ≤ get_or l i 0 → 57 < get_or l i 0 → digits_of v (drop i l) ≡ NoNumber
+  pub too_many : i < length l → IsAsciiDigit (get_or l i 0) → 99999999 < v → digits_of v (drop i l) ≡ None
   unfolding digits_of
-  digit_high h low high = rw (drop-cons l i 0, le-ltb (get_or l i 0) 48 low, lt-ltb 57 (get_or l i 0) high)
+  too_many h d large = rw (drop-cons l i 0, le-ltb (get_or l i 0) 48 d.0, le-ltb 57 (get_or l i 0) d.1, lt-ltb 99999999 v large)
 
-  pub too_many : i < length l → 48 ≤ get_or l i 0 → get_or l i 0 ≤ 57 → 99999999 < v → digits_of v (drop i l) ≡ NoNumber
-  unfolding digits_of
-  too_many h low high large = rw (drop-cons l i 0, le-ltb (get_or l i 0) 48 low, le-ltb 57 (get_or l i 0) high, lt-ltb 99999999 v large)
-
-  pub digits_end : length l ≤ i → digits_of v (drop i l) ≡ Number v
+  pub digits_end : length l ≤ i → digits_of v (drop i l) ≡ Some v
   unfolding digits_of
   digits_end h = rw (drop_of_length-le l h)
 
-module _ (l : List ℕ) (i : ℕ) where
-  pub space_more : i < length l → get_or l i 0 ≡ 32 → field_of (drop i l) ≡ field_of (drop (i + 1) l)
-  unfolding field_of
-  space_more h e = rw (drop-cons l i 0, add-one, eq-eqb (get_or l i 0) 32 e)
+-- the first byte that is no space; where there is none, the length
+abbrev first_said : List ℕ → ℕ
+first_said l = position_or_len (λ b. not (b == 32)) l
 
-  pub blank_field : length l ≤ i → field_of (drop i l) ≡ NoNumber
-  unfolding field_of
-  blank_field h = rw (drop_of_length-le l h)
+spaces_skipped : (l : List ℕ) → field_of l ≡ field_of (drop (first_said l) l)
+unfolding field_of
+spaces_skipped [] = refl
+spaces_skipped (b ∷ l) = by_test (eqb b 32) (λ e. rw (e, one-add) (spaces_skipped l)) (λ e. rw (e, e) refl)
 
-  pub zero_alone : i < length l → (get_or l i 0 ≡ 32 → ⊥) → get_or l i 0 ≡ 48 → length l ≤ i + 1 → field_of (drop i l) ≡ Number 0
-  unfolding field_of zero_of
-  zero_alone h s z e = rw (drop-cons l i 0, ne_eqb (get_or l i 0) 32 s, eq-eqb (get_or l i 0) 48 z, drop_of_length-le l (rw add-one at e))
+pub blank_field : (l : List ℕ) → position (λ b. not (b == 32)) l ≡ None → field_of l ≡ None
+unfolding field_of
+blank_field l e =
+    by_test (nat_lt (first_said l) (length l))
+    (λ t. absurd (none-some (first_said l) (sym (rw t at e))))
+    (λ t. spaces_skipped l ∙ rw (drop_of_length-le l (ltb-false (first_said l) (length l) t)))
 
-  pub zero_leads : i < length l → (get_or l i 0 ≡ 32 → ⊥) → get_or l i 0 ≡ 48 → i + 1 < length l → field_of (drop i l) ≡ NoNumber
-  unfolding field_of zero_of
-  zero_leads h s z e = rw (drop-cons l i 0, ne_eqb (get_or l i 0) 32 s, eq-eqb (get_or l i 0) 48 z, drop-cons l (suc i) 0 (rw add-one at e))
+-- what stands behind the spaces
+pub record Said (l said : List ℕ) : Type 0 where
+  pub same : field_of l ≡ field_of said
+  pub some : 0 < length said
+  pub no_space : get_or said 0 0 ≡ 32 → ⊥
 
-  pub digits_begin : i < length l → (get_or l i 0 ≡ 32 → ⊥) → (get_or l i 0 ≡ 48 → ⊥) → field_of (drop i l) ≡ digits_of 0 (drop i l)
-  unfolding field_of
-  digits_begin h s z = rw (drop-cons l i 0, ne_eqb (get_or l i 0) 32 s, ne_eqb (get_or l i 0) 48 z)
+pub said_from : (l : List ℕ) (i : ℕ) → position (λ b. not (b == 32)) l ≡ Some i → Said l (take (length l - i) (drop i l))
+said_from l i e =
+    let first = position-Some (λ b. not (b == 32)) l i 0 e in
+    let whole : take (length l - i) (drop i l) ≡ drop i l = rw (← length-drop i l) (take-length (drop i l)) in
+    let at : get_or (drop i l) 0 0 ≡ get_or l i 0 = get_or-drop i l 0 0 ∙ rw add-zero refl in
+    rw whole (record {
+      same = rw (← (cond_some _ _ _ e).1) (spaces_skipped l);
+      some = omega (arith, length-drop i l, first.0);
+      no_space = λ h. never (rw (eq-eqb (get_or l i 0) 32 (sym at ∙ h)) at first.1);
+    })
+
+pub zero_alone : (said : List ℕ) → get_or said 0 0 ≡ 48 → length said ≡ 1 → field_of said ≡ Some 0
+unfolding field_of zero_of
+zero_alone [] z k = absurd (omega arith)
+zero_alone (b ∷ []) z k = rw z refl
+zero_alone (b ∷ (d ∷ l)) z k = absurd (omega arith)
+
+pub zero_leads : (said : List ℕ) → get_or said 0 0 ≡ 48 → (length said ≡ 1 → ⊥) → field_of said ≡ None
+unfolding field_of zero_of
+zero_leads [] z k = refl
+zero_leads (b ∷ []) z k = absurd (k refl)
+zero_leads (b ∷ (d ∷ l)) z k = rw z refl
+
+pub digits_begin : (l said : List ℕ) → Said l said → (get_or said 0 0 ≡ 48 → ⊥) → field_of said ≡ digits_of 0 said
+unfolding field_of
+digits_begin l [] s z = absurd (omega (arith, s.some))
+digits_begin l (b ∷ bs) s z = rw (ne_eqb b 32 s.no_space, ne_eqb b 48 z) refl

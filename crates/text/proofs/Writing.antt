@@ -7,8 +7,11 @@ use native.Mathlib.Nat.{add-zero}
 use native.Mathlib.Omega.{arith}
 use borrow.Author.Tests.{le-leb, lt-leb, leb-true}
 use lib.Dec.{leb}
-use lib.ListN.{length, take, drop, set, length-append, length-drop, length-set, take-append-drop}
-use lib.Seq.{set_split, drop_at, take-set-le, take-take, append_snoc, take_at, length-take-le}
+use lib.ListN.{length, take, drop, set, length-append, length-drop, drop_of_length-le, take-append-drop}
+use lib.Seq.{append_snoc, take_at, length-take-le, drop-drop}
+use borrow.Rule.Slice.PartMut.{put_mid}
+use native.Mathlib.Numerals.{add-one, sub-one}
+use Rattle.std.proofs.lemmas.List.{drop-set}
 use Rattle.common.proofs.Tests.{by_test}
 use Rattle.common.proofs.Choice.{either}
 use Rattle.text.specs.Column.{glyph_of, front_of, column_of}
@@ -26,48 +29,27 @@ length_column (suc w) v = length-append (front_of w (v / 10)) _ ∙ omega (arith
 
 -- a store at k, seen from k
 drop_set : (l : List ℕ) (k g : ℕ) → k < length l → drop k (set l k g) ≡ g ∷ drop (suc k) l
-drop_set l k g h =
-    ap (drop k) (set_split l k g h) ∙ drop_at (take k l) (g ∷ drop (suc k) l) k (length-take-le k l (omega arith))
+drop_set l k g h = drop-set l k g h ∙ rw add-one refl
 
--- the loop's state: the columns from j on are written, those before are as they were, and `left` is what they are to say
-pub record ColumnsWritten (old : List ℕ) (at j left : ℕ) (rest now : List ℕ) : Type 0 where
-  pub long : length now ≡ length old
-  pub front : take (at + j) now ≡ take (at + j) old
-  pub back : front_of j left ++ drop (at + j) now ≡ rest
-
-one_column : (old l : List ℕ) (k w left : ℕ) (rest : List ℕ) → k < length l
-    → take (suc k) l ≡ take (suc k) old → front_of (suc w) left ++ drop (suc k) l ≡ rest
-    → (take k (set l k (glyph_of left)) ≡ take k old) × (front_of w (left / 10) ++ drop k (set l k (glyph_of left)) ≡ rest)
+one_column : (l : List ℕ) (k left : ℕ) (rest : List ℕ) → k < length l → front_of (suc k) left ++ drop (suc k) l ≡ rest
+    → front_of k (left / 10) ++ drop k (set l k (glyph_of left)) ≡ rest
 unfolding front_of
-one_column old l k w left rest h p q = (
-  take-set-le k l k _ (omega arith) ∙ sym (take-take k (suc k) l (omega arith)) ∙ ap (take k) p ∙ take-take k (suc k) old (omega arith),
-  rw (drop_set l k (glyph_of left) h) (sym (append_snoc (front_of w (left / 10)) (glyph_of left) (drop (suc k) l)) ∙ q),
-)
+one_column l k left rest h q =
+    rw (drop_set l k (glyph_of left) h) (sym (append_snoc (front_of k (left / 10)) (glyph_of left) (drop (suc k) l)) ∙ q)
+
+-- the last digit, put first
+pub last_column : (l : List ℕ) (k v : ℕ) → suc k ≡ length l → front_of k (v / 10) ++ drop k (set l k (48 + v % 10)) ≡ column_of (suc k) v
+unfolding column_of
+last_column l k v e =
+    let h : length l ≤ suc k = omega arith in
+    ap (λ (x : List ℕ). front_of k (v / 10) ++ x)
+    (drop_set l k (48 + v % 10) (omega arith) ∙ ap (λ (x : List ℕ). (48 + v % 10) ∷ x) (drop_of_length-le l {i = suc k} h))
 
 -- one more column, to the left of those that are there
-pub column_more : (old l : List ℕ) (at j left g : ℕ) (rest : List ℕ) → 0 < j → at + j ≤ length l → g ≡ glyph_of left
-    → ColumnsWritten old at j left rest l → ColumnsWritten old at (j - 1) (left / 10) rest (set l (at + (j - 1)) g)
-column_more old l at j left g rest h room e s =
-    let k : at + j ≡ suc (at + (j - 1)) = omega arith in
-    let m : suc (j - 1) ≡ j = omega arith in
-    let one = one_column old l (at + (j - 1)) (j - 1) left rest (omega arith) (rw k at s.front)
-    (ap (λ (x : ℕ). front_of x left ++ drop (suc (at + (j - 1))) l) m ∙ ap (λ (x : ℕ). front_of j left ++ drop x l) (sym k) ∙ s.back) in
-    rw e (record { long = length-set l _ _ ∙ s.long; front = one.0; back = one.1 })
-
--- all columns: the last digit was put first
-pub column_done : (old l : List ℕ) (at w v : ℕ) → at + w < length old
-    → take at l ≡ take at (set old (at + w) (48 + v % 10))
-    → drop at l ≡ front_of w (v / 10) ++ drop (at + w) (set old (at + w) (48 + v % 10))
-    → l ≡ take at old ++ column_of (suc w) v ++ drop (at + suc w) old
-unfolding column_of
-column_done old l at w v h p q =
-    let n : suc (at + w) ≡ at + suc w = omega arith in
-    sym (take-append-drop at l)
-    ∙ ap (λ (x : List ℕ). x ++ drop at l) (p ∙ take-set-le at old (at + w) (48 + v % 10) (omega arith))
-    ∙ ap (λ (x : List ℕ). take at old ++ x)
-    (q ∙ ap (λ (x : List ℕ). front_of w (v / 10) ++ x) (drop_set old (at + w) (48 + v % 10) h ∙ ap (λ (n : ℕ). (48 + v % 10) ∷ drop n old) n)
-    ∙ sym (append_snoc (front_of w (v / 10)) (48 + v % 10) (drop (at + suc w) old)))
-    ∙ sym (append_assoc (take at old) (front_of w (v / 10) ++ ((48 + v % 10) ∷ [])) (drop (at + suc w) old))
+pub column_more : (l : List ℕ) (j left g : ℕ) (rest : List ℕ) → 0 < j → j ≤ length l → g ≡ glyph_of left
+    → front_of j left ++ drop j l ≡ rest → front_of (j - 1) (left / 10) ++ drop (j - 1) (set l (j - 1) g) ≡ rest
+column_more l zero left g rest some room e s = absurd (omega arith)
+column_more l (suc k) left g rest some room e s = rw (sub-one, e) (one_column l k left rest room s)
 
 module _ (l : List ℕ) (at : ℕ) (bytes : List ℕ) where
   put_fits : at + length bytes ≤ length l → put_at l at bytes ≡ take at l ++ bytes ++ drop (at + length bytes) l
@@ -95,6 +77,12 @@ module _ (l : List ℕ) (at width v : ℕ) where
   put_column h =
       put_fits l at (column_of width v) (rw (length_column width v) h)
       ∙ ap (λ (n : ℕ). take at l ++ column_of width v ++ drop (at + n) l) (length_column width v)
+
+  -- the columns that were lent out, put back
+  pub put_lent : at ≤ length l → width ≤ length l - at → put_mid at (at + width - at) l (column_of width v) ≡ put_at l at (column_of width v)
+  put_lent h room =
+      let k : at + width - at ≡ width = omega arith in
+      rw (k, drop-drop) (sym (append_assoc (take at l) (column_of width v) (drop (at + width) l)) ∙ sym (put_column (omega arith)))
 
   -- what is there up to the end of the field
   pub put_more : at + width ≤ length l → take (at + width) (put_at l at (column_of width v)) ≡ take at l ++ column_of width v

@@ -1,13 +1,8 @@
--- `number_bytes::put_all` meets its contract. The loop's invariant: storing the numbers that are left gives what storing all of
--- them gives. The measure is how many are left.
+-- `number_bytes::put_all` meets its contract. The loop's invariant: the numbers before i are stored, and nothing behind them is changed.
 -- Assumes nothing.
-use Prim.Native.Nat.{◌-◌}
-use lib.ListN.{length}
-use Rattle.number_bytes.proofs.Writing.{Storing}
+use Rattle.std.proofs.Common.{◌≡◌}
+use Rattle.number_bytes.proofs.Writing.{first_stored}
 use Rattle.number_bytes.proofs.put_all.Given as goal
 
 abbrev pub invariant-loop-i : goal.invariant-loop-i
-invariant-loop-i l = Storing l.numbers l.initial.out l.out l.i
-
-abbrev pub decreases-loop-i : goal.decreases-loop-i
-decreases-loop-i l = length l.numbers - l.i
+invariant-loop-i l = l.out ≡ first_stored l.numbers l.initial.out l.i

@@ -1,26 +1,22 @@
--- `paid_runs::run_end` meets its contract. The loop's invariant: the marks from `from` to `i` are paid, so the run ends at the same place from either.
+-- `paid_runs::run_end` meets its contract: a run ends within the marks.
 -- Assumes nothing.
-use native.Mathlib.Omega.{arith}
-use Rattle.paid_runs.proofs.PaidRun.{run_goes_on, run_stops, run_ends}
+use Rattle.std.proofs.Common.{◌≡◌, ◌-◌, length, length-drop, take, drop, List, ℕ, ◌+◌, ◌∙◌, ap, arith}
+use lib.Seq.{take-length}
+use Rattle.paid_runs.specs.PaidRun.{paid_run}
+use Rattle.paid_runs.proofs.PaidRun.{run_ends, run_inside}
 use Rattle.paid_runs.proofs.run_end.Goals as goal
 
-pub loop-i-init : goal.loop-i-init
-loop-i-init c = c.past_eights-i.ensures
+whole : (ms : List ℕ) (i : ℕ) → take (length ms - i) (drop i ms) ≡ drop i ms
+whole ms i = rw (← length-drop i ms) (take-length (drop i ms))
 
-pub returns-then-marks-i-ne1 : goal.returns-then-marks-i-ne1
-returns-then-marks-i-ne1 c =
-    let l = c.loop-i in
-    let ms = c.args.marks.now in
-    omega (arith, l.invariant, run_stops ms l.i c.loop-i-test.true c.if-marks-i-ne1.true)
+pub returns-then-from-marks : goal.returns-then-from-marks
+returns-then-from-marks c = omega (arith, run_ends c.args.marks.now c.args.from c.if-from-marks.true)
 
-pub loop-i-preserved : goal.loop-i-preserved
-loop-i-preserved c =
-    let l = c.loop-i in
+pub overflow_add-result : goal.overflow_add-result
+overflow_add-result c =
     let ms = c.args.marks.now in
-    omega (arith, l.invariant, run_goes_on ms l.i c.loop-i-test.true c.if-marks-i-ne1.false)
+    let i = c.args.from in
+    omega (arith, c.paid_first.ensures ∙ ap paid_run (whole ms i), run_inside (drop i ms), length-drop i ms)
 
 pub returns : goal.returns
-returns c =
-    let l = c.loop-i in
-    let ms = c.args.marks.now in
-    omega (arith, l.invariant, run_ends ms l.i c.loop-i-test.false)
+returns c = rw (← whole c.args.marks.now c.args.from) (ap (λ n. c.args.from + n) c.paid_first.ensures)

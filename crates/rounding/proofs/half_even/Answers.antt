@@ -1,6 +1,6 @@
 -- `rounding::half_even` meets its contract: the rest, counted for one more above an odd number, is compared with what is missing to the divisor.
 -- Assumes nothing.
-use mathlib.Core.Path.{◌≡◌, sym}
+use mathlib.Core.Path.{◌≡◌, refl, sym}
 use Prim.Native.Nat.{ℕ, ◌+◌, ◌*◌, ◌-◌, ◌%◌, ◌≤◌, ◌<◌, ◌^◌}
 use native.Mathlib.Nat.{div-add-mod'}
 use native.Mathlib.Omega.{arith}
@@ -29,7 +29,7 @@ returns-then-d-eq0 c = none _ _ c.if-d-eq0.true
 pub overflow_add-rest : goal.overflow_add-rest
 overflow_add-rest c =
     let a = c.args in
-    omega (arith, rest_low a.n a.d c.if-d-eq0.false, c.odd.ensures)
+    omega (arith, rest_low a.n a.d c.if-d-eq0.false)
 
 pub overflow_sub-d : goal.overflow_sub-d
 overflow_sub-d c =
@@ -37,14 +37,14 @@ overflow_sub-d c =
     omega (arith, rest_low a.n a.d c.if-d-eq0.false)
 
 pub returns-then-rest-odd : goal.returns-then-rest-odd
-returns-then-rest-odd c = down _ _ _ _ _ (div-add-mod' _ _) (rest_low _ _ c.if-d-eq0.false) c.odd.ensures c.if-rest-odd.true
+returns-then-rest-odd c = down _ _ _ _ _ (div-add-mod' _ _) (rest_low _ _ c.if-d-eq0.false) refl c.if-rest-odd.true
 
 pub overflow_add-result : goal.overflow_add-result
 overflow_add-result c =
     record {
       fits =
-          room_up _ _ _ _ _ (div-add-mod' _ _) (rest_low _ _ c.if-d-eq0.false) c.odd.ensures (2 ^ 63) c.if-rest-odd.false (omega arith) (omega arith);
+          room_up _ _ _ _ _ (div-add-mod' _ _) (rest_low _ _ c.if-d-eq0.false) refl (2 ^ 63) c.if-rest-odd.false (omega arith) (omega arith);
     }
 
-pub returns : goal.returns
-returns c = up _ _ _ _ _ (div-add-mod' _ _) (rest_low _ _ c.if-d-eq0.false) c.odd.ensures c.if-rest-odd.false
+pub returns-else-rest-odd : goal.returns-else-rest-odd
+returns-else-rest-odd c = up _ _ _ _ _ (div-add-mod' _ _) (rest_low _ _ c.if-d-eq0.false) refl c.if-rest-odd.false

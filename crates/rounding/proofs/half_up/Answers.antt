@@ -7,16 +7,18 @@ use native.Mathlib.Omega.{arith}
 use Rattle.rounding.specs.Nearest.{half_up}
 use Rattle.rounding.proofs.HalfUp.{half_up_zero, half_up_further}
 use Rattle.rounding.proofs.half_up.Goals as goal
+use Rattle.rounding.proofs.half_up.Goals.{then-d-eq0-via-then-d-eq0, then-d-eq0-via-else-d-eq0+then-n-half}
 
 none : (n d : ℕ) → d ≡ 0 → 0 ≡ half_up n d
 unfolding half_up
 none n d e = rw e (sym (div-zero (2 * n + 0)))
 
 pub returns-then-d-eq0 : goal.returns-then-d-eq0
-returns-then-d-eq0 c = none _ _ c.if-d-eq0.true
-
-pub returns-then-n-half : goal.returns-then-n-half
-returns-then-n-half c = half_up_zero _ _ _ refl c.if-n-half.true
+returns-then-d-eq0 c =
+    elim c.then-d-eq0.branch [
+      | then-d-eq0-via-then-d-eq0 w ↦ none _ _ w.if-d-eq0.true
+      | then-d-eq0-via-else-d-eq0+then-n-half w ↦ half_up_zero _ _ _ refl w.if-n-half.true
+    ]
 
 pub overflow_add-result : goal.overflow_add-result
 overflow_add-result c =

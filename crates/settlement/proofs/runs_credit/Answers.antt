@@ -9,14 +9,13 @@ use Rattle.credit.specs.Credit.{credit_over, credit_in}
 use Rattle.years.specs.Years.{year_credits}
 use Rattle.years.specs.Elected.{purchase_in}
 use Rattle.scheme.specs.Scheme.{pounds_in_pence, most_marks}
-use Rattle.election.specs.declared.TableRates.{TableRates}
-use Rattle.examination.specs.Examine.{Monthly}
+use Rattle.election.specs.TermsAccepted.{TermsAccepted}
 use Rattle.terms.specs.declared.Terms.{Terms}
 use Rattle.money.specs.Money.{pension}
 use Rattle.money.specs.declared.PensionPence.{PensionPence}
 use Rattle.rounding.proofs.Laws.{combine_none}
 use Rattle.rounding.specs.Nearest.{nearest, combine}
-use Rattle.settlement.proofs.Purchases.{lower_rate_asked, upper_rate_asked, credit_fits, credit_combined}
+use Rattle.settlement.proofs.Purchases.{lower_rate_asked, upper_rate_asked, no_upper_rate_asked, credit_fits, credit_combined}
 use Rattle.settlement.specs.Credit.{credit_of}
 use Rattle.settlement.proofs.runs_credit.Goals as goal
 
@@ -26,9 +25,9 @@ worked : (t : Terms) (p : ℕ) (ms : List ℕ) {years : List ℕ} {k : PensionPe
 unfolding credit_in
 worked t p ms y k = k ∙ rw y
 
-small : (t : Terms) (rates : TableRates) (ms years : List ℕ) {k : PensionPence} → Monthly t rates → length ms ≤ most_marks
+small : (t : Terms) (ms years : List ℕ) {k : PensionPence} → TermsAccepted t 0 → 0 < t.term → length ms ≤ most_marks
     → ((n : ℕ) → get_or years n 0 ≤ pounds_in_pence t.amount) → k ≡ pension (credit_over nearest years ms) → k.0 < 2 ^ 32
-small t rates ms years m few most k = rw k (credit_fits t m.passes m.some_years years ms few most)
+small t ms years passes monthly few most k = rw k (credit_fits t passes monthly years ms few most)
 
 only_table : (t : Terms) (ms : List ℕ) {k : PensionPence} → t.pnpa_months ≡ 0 → k ≡ pension (credit_in nearest (purchase_in t t.pnpa_years) ms)
     → k ≡ pension (credit_of t ms)
@@ -40,35 +39,37 @@ both t ms e f = rw (e, f) (ap pension (sym (credit_combined t ms)))
 
 pub year_credits-years-requires : goal.year_credits-years-requires
 year_credits-years-requires c =
-    let m = c.requires.monthly in
-    let r = lower_rate_asked _ m.passes m.some_years m.rates_are in
+    let e = c.args.e in
+    let r = lower_rate_asked _ e.accepted c.requires.monthly e.looked_up in
     record { rate_value = r.0; rate_nonzero = r.1 }
 
-pub returns-then-t-eq0 : goal.returns-then-t-eq0
-returns-then-t-eq0 c =
-    let t = c.args.t in
-    only_table t _ c.if-t-eq0.true (worked t _ _ c.year_credits-years.ensures.is c.credit_over-only.ensures)
+pub returns-in-None : goal.returns-in-None
+returns-in-None c =
+    let e = c.args.e in
+    only_table e.terms _ (no_upper_rate_asked _ e.accepted c.requires.monthly e.looked_up c.in-None.is)
+    (worked e.terms _ _ c.year_credits-years.ensures.is c.credit_over-only.ensures)
 
 pub overflow_add-t : goal.overflow_add-t
-overflow_add-t c =
-    omega (arith, c.requires.monthly.passes.pension_age.age_high)
+overflow_add-t c = omega (arith, c.args.e.accepted.pension_age.age_high)
 
 pub year_credits-upper_years-requires : goal.year_credits-upper_years-requires
 year_credits-upper_years-requires c =
-    let m = c.requires.monthly in
-    let r = upper_rate_asked _ m.passes m.some_years m.rates_are c.if-t-eq0.false in
+    let e = c.args.e in
+    let r = upper_rate_asked _ e.accepted c.requires.monthly e.looked_up c.in-Some.rate c.in-Some.is in
     record { rate_value = r.0; rate_nonzero = r.1 }
 
 pub combine-requires : goal.combine-requires
 combine-requires c =
-    let t = c.args.t in
+    let e = c.args.e in
     let few = c.requires.marks_len_bound in
-    let m = c.requires.monthly in
-    (small t _ _ _ m few c.year_credits-years.ensures.most c.credit_over-only.ensures, small t _ _ _ m few c.year_credits-upper_years.ensures.most c.credit_over-other.ensures)
+    let monthly = c.requires.monthly in (
+      small e.terms _ _ e.accepted monthly few c.year_credits-years.ensures.most c.credit_over-only.ensures,
+      small e.terms _ _ e.accepted monthly few c.year_credits-upper_years.ensures.most c.credit_over-other.ensures,
+    )
 
-pub returns : goal.returns
-returns c =
-    let t = c.args.t in
+pub returns-in-Some : goal.returns-in-Some
+returns-in-Some c =
+    let t = c.args.e.terms in
     c.combine.ensures
     ∙ both t _ (worked t _ _ c.year_credits-years.ensures.is c.credit_over-only.ensures)
     (worked t _ _ c.year_credits-upper_years.ensures.is c.credit_over-other.ensures)

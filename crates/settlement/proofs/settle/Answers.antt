@@ -8,7 +8,15 @@ use native.Mathlib.Omega.{arith}
 use lib.Dec.{eqb, ltb}
 use borrow.Author.Tests.{lt-ltb}
 use Rattle.common.specs.Choice.{pick}
-use Rattle.scheme.specs.Scheme.{most_marks}
+use Rattle.scheme.specs.Scheme.{open_months, most_marks}
+use Rattle.std.proofs.lemmas.Result.{err_from_is_err_and}
+use Rattle.refusals.specs.declared.Refusal.{Refusal}
+use Rattle.refusals.specs.declared.Refused.{Refused}
+use Rattle.refusals.specs.Numbers.{refusal_number}
+use Rattle.refusals.specs.Places.{RefusedAt, refusing}
+use Rattle.refusals.proofs.Numbers.{refusal_positive}
+use Rattle.election.specs.Price.{contribution_of}
+use Rattle.marks.specs.Numbers.{status_number}
 use Rattle.election.proofs.Laws.{contribution_most}
 use Rattle.terms.specs.declared.Terms.{Terms}
 use Rattle.marks.proofs.Counts.{months_most}
@@ -20,12 +28,11 @@ use Rattle.money.specs.declared.PensionPence.{PensionPence}
 use Rattle.settlement.proofs.Demand.{demand_3}
 use Rattle.settlement.proofs.Marks.{marks_answered}
 use Rattle.settlement.proofs.Laws.{settle_refused, settle_settled}
-use Rattle.examination.proofs.Laws.{settled_terms, settled_few, examined_refused, examined_accepted}
-use Rattle.examination.proofs.Examination.{examined_told, examined_none, examined_status, examined_monthly}
+use Rattle.examination.proofs.Laws.{settled_terms, settled_few}
 use Rattle.settlement.specs.Demand.{Demand3}
 use Rattle.settlement.specs.Marks.{MarksAnswered}
 use Rattle.examination.specs.Refusal.{settle_refusal}
-use Rattle.examination.specs.Examine.{examined_of}
+use Rattle.examination.specs.Examine.{ExaminedTold}
 use Rattle.settlement.specs.Settle.{SettleNumbers, credit_at_status, refund_at_status, refused_numbers, settle_of}
 use Rattle.examination.specs.declared.Examined.{Examined}
 use Rattle.settlement.proofs.settle.Goals as goal
@@ -36,46 +43,60 @@ near : (t : Terms) (ms : List ℕ) {n : SettleNumbers} {b : Bool} → n ≡ sett
 near t ms is says =
     (is, (subst (Demand3 t ms) (sym is) (demand_3 t ms), (subst (MarksAnswered t ms) (sym is) (marks_answered t ms), says ∙ ap (λ (n : SettleNumbers). ltb 0 n.refusal) is)))
 
-refusal_told : (n : ℕ) → (n ≡ 0 → ⊥) → true ≡ ltb 0 n
-refusal_told n some = sym (lt-ltb 0 n (omega (arith, some)))
+refusal_told : (r : Refusal) → true ≡ ltb 0 (refusal_number r)
+refusal_told r = sym (lt-ltb 0 _ (refusal_positive r))
 
-module _ (t : Terms) (ms : List ℕ) {e : Examined} (is : e ≡ examined_of t ms) where
-  refuses : (e.refusal ≡ 0 → ⊥) → refused_numbers e.refusal e.place ≡ settle_of t ms
-  refuses some =
-      let refused : (settle_refusal t ms).number ≡ 0 → ⊥ = λ z. some (examined_told t ms is ∙ z) in
-      rw (is, examined_refused t ms refused, settle_refused t ms refused)
+module _ (t : Terms) (ms : List ℕ) where
+  refuses : (e : Refused) → refusing (refusal_number e.refusal) e.place ≡ settle_refusal t ms
+      → refused_numbers (refusal_number e.refusal) e.place ≡ settle_of t ms
+  refuses e is =
+      let some : (settle_refusal t ms).number ≡ 0 → ⊥ = λ z. omega (arith, refusal_positive e.refusal, ap (λ (r : RefusedAt). r.number) is, z) in
+      ap (λ (r : RefusedAt). refused_numbers r.number r.place) is ∙ sym (settle_refused t ms some)
 
-  small : (settle_refusal t ms).number ≡ 0 → (e.contribution.0 < 2 ^ 32) × (e.paid_months ≤ most_marks)
-  small none =
-      rw (is, examined_accepted t ms none)
-      (omega (arith, contribution_most t 0 (settled_terms t ms none), months_most ms, settled_few t ms none))
+  module _ (none : refusing 0 0 ≡ settle_refusal t ms) {e : Examined} (told : ExaminedTold t ms e) where
+    unrefused : (settle_refusal t ms).number ≡ 0
+    unrefused = sym (ap (λ (r : RefusedAt). r.number) none)
 
-  settles : (settle_refusal t ms).number ≡ 0 → {k : PensionPence} {f : ContributionPence} → k ≡ pension (credit_at_status t ms e.status)
-      → f ≡ contribution (pick (eqb e.status 5) (e.contribution.0 * e.paid_months) 0)
-      → ◌≡◌ {A = SettleNumbers}
-      (record { refusal = 0; place = 0; contribution = e.contribution.0; status = e.status; credit = k.0; refund = f.0 })
-      (settle_of t ms)
-  unfolding refund_at_status
-  settles none credit refund = rw (credit, refund, is, examined_accepted t ms none, settle_settled t ms none)
+    monthly : (status_number e.status ≡ 5 → ⊥) → (status_number e.status ≡ 6 → ⊥) → 0 < e.election.terms.term
+    monthly five other = rw told.terms (not_lump open_months t.term ms (rw told.status at other))
 
-pub returns-then-e-ne0 : goal.returns-then-e-ne0
-returns-then-e-ne0 c =
-    let r = near _ _ (refuses _ _ c.examine-e.ensures c.if-e-ne0.true) (refusal_told _ c.if-e-ne0.true) in
-    record { is = r.0; distance = r.1.0; marks = r.1.1.0; refused = r.1.1.1 }
+    small : {k : ContributionPence} → k ≡ contribution (contribution_of e.election.terms) → (k.0 < 2 ^ 32) × (e.paid_months ≤ most_marks)
+    small cost =
+        rw (cost, told.terms, told.paid)
+        (omega (arith, contribution_most t 0 (settled_terms t ms unrefused), months_most ms, settled_few t ms unrefused))
 
-pub credit_at_status-credit-requires : goal.credit_at_status-credit-requires
-credit_at_status-credit-requires c =
-    let e = c.examine-e.ensures in
-    let none = examined_none _ _ e c.if-e-ne0.false in
-    record { monthly = λ five other. examined_monthly _ _ e none (not_lump _ _ _ (rw (examined_status _ _ e none) at other)); marks_len_bound = settled_few _ _ none }
+    settles : {k f : ContributionPence} {h : PensionPence} → k ≡ contribution (contribution_of e.election.terms)
+        → h ≡ pension (credit_at_status e.election.terms ms (status_number e.status))
+        → f ≡ contribution (pick (eqb (status_number e.status) 5) (k.0 * e.paid_months) 0)
+        → ◌≡◌ {A = SettleNumbers}
+        (record { refusal = 0; place = 0; contribution = k.0; status = status_number e.status; credit = h.0; refund = f.0 })
+        (settle_of t ms)
+    unfolding refund_at_status
+    settles cost credit refund = rw (refund, cost, credit, told.terms, told.paid, told.status, settle_settled t ms unrefused)
 
-pub refund_at_status-refund-requires : goal.refund_at_status-refund-requires
-refund_at_status-refund-requires c =
-    let e = c.examine-e.ensures in
-    small _ _ e (examined_none _ _ e c.if-e-ne0.false)
+pub returns-in_err-e : goal.returns-in_err-e
+returns-in_err-e c =
+    let p = err_from_is_err_and c.from_residual.result c.from_residual.ensures.1 in
+    let e = c.in_err-e.field-0.0 in
+    let r = near _ _ (refuses c.args.t c.args.marks.now e c.in_err-e.ensures.refusal) (refusal_told e.refusal) in
+    rw (p.1, p.2) (record { is = r.0; distance = r.1.0; marks = r.1.1.0; refused = r.1.1.1 })
+
+pub credit_at_status-requires : goal.credit_at_status-requires
+credit_at_status-requires c =
+    let e = c.in_ok-e.ensures in
+    record {
+      monthly = monthly c.args.t c.args.marks.now e.refusal e.told;
+      marks_len_bound = settled_few c.args.t c.args.marks.now (unrefused c.args.t c.args.marks.now e.refusal e.told);
+    }
+
+pub refund_at_status-requires : goal.refund_at_status-requires
+refund_at_status-requires c =
+    let e = c.in_ok-e.ensures in
+    small c.args.t c.args.marks.now e.refusal e.told c.cost-contribution.ensures
 
 pub returns : goal.returns
 returns c =
-    let e = c.examine-e.ensures in
-    let r = near _ _ (settles _ _ e (examined_none _ _ e c.if-e-ne0.false) c.credit_at_status-credit.ensures c.refund_at_status-refund.ensures) refl in
+    let e = c.in_ok-e.ensures in
+    let is = settles c.args.t c.args.marks.now e.refusal e.told c.cost-contribution.ensures c.credit_at_status.ensures c.refund_at_status.ensures in
+    let r = near _ _ is refl in
     record { is = r.0; distance = r.1.0; marks = r.1.1.0; refused = r.1.1.1 }

@@ -8,6 +8,6 @@ pub returns-then-left-eq0 : goal.returns-then-left-eq0
 unfolding glyph_of
 returns-then-left-eq0 c = search tests
 
-pub returns : goal.returns
+pub returns-else-left-eq0 : goal.returns-else-left-eq0
 unfolding glyph_of
-returns c = search tests
+returns-else-left-eq0 c = search tests

@@ -1,37 +1,21 @@
--- `text::put_digits` meets its contract. The invariant: the columns from j on are written.
+-- `text::put_digits` meets its contract.
 -- Assumes nothing.
-use mathlib.Core.Path.{◌≡◌, refl, ◌∙◌}
-use Prim.Native.Nat.{suc, ◌+◌, ◌-◌}
-use native.Mathlib.Omega.{arith}
-use lib.ListN.{length, length-set}
+use Rattle.std.proofs.Common.{◌≡◌, suc, ◌-◌, length, length-set, ◌∙◌, arith}
 use Rattle.text.specs.Column.{front_of}
-use Rattle.text.proofs.Writing.{column_more, column_done}
-use borrow.Author.Rules.{rules}
+use Rattle.text.proofs.Writing.{last_column, column_more}
 use Rattle.text.proofs.put_digits.Goals as goal
 
 pub loop-j-init : goal.loop-j-init
-loop-j-init c = (search rules, record { long = refl; front = refl; back = refl })
-
-pub bounds-out-at-in-loop-j : goal.bounds-out-at-in-loop-j
-bounds-out-at-in-loop-j c =
-    let long : length c.loop-j.out ≡ length c.args.out.now = c.loop-j.invariant.1.long ∙ simp length-set in
-    omega (arith, long)
+loop-j-init c = last_column _ _ _ (omega arith)
 
 pub loop-j-preserved : goal.loop-j-preserved
 loop-j-preserved c =
-    let w = c.loop-j in
-    let long : length c.loop-j.out ≡ length c.args.out.now = c.loop-j.invariant.1.long ∙ simp length-set in
-    (search rules, column_more _ _ _ _ _ _ _ c.loop-j-test.true (omega (arith, long)) c.glyph.ensures w.invariant.1)
-
-pub shape_of-out : goal.shape_of-out
-shape_of-out c = c.loop-j.invariant.1.long ∙ simp length-set
+    let long : length c.loop-j.columns ≡ length c.args.columns.now = c.loop-j.auto.columns ∙ simp length-set in
+    column_more _ _ _ _ _ (omega arith) (omega arith) c.glyph.ensures c.loop-j.invariant
 
 pub returns : goal.returns
 unfolding front_of
 returns c =
-    let w = c.loop-j in
-    let x = c.args in
-    let none : w.j ≡ 0 = omega arith in
-    let start : x.at + w.j ≡ x.at = omega arith in
-    let width : suc (x.width - 1) ≡ x.width = omega arith in
-    rw width at (column_done x.out.now w.out x.at (x.width - 1) x.v (omega arith) (rw start at w.invariant.1.front) (rw (start, none) at w.invariant.1.back))
+    let none : c.loop-j.j ≡ 0 = omega arith in
+    let all : suc (length c.args.columns.now - 1) ≡ length c.args.columns.now = omega arith in
+    rw (none, all) at c.loop-j.invariant

@@ -1,26 +1,21 @@
 -- `text::put_number` meets its contract: where the columns are not all there, nothing is written.
 -- Assumes nothing.
-use mathlib.Core.Path.{sym, ◌∙◌}
-use native.Mathlib.Omega.{arith}
-use Rattle.text.proofs.Writing.{put_no_column, put_column_short, put_column}
+use Rattle.std.proofs.Common.{◌≡◌, ◌+◌, ◌-◌, length, take, drop, length-take, length-drop, sym, arith}
+use Rattle.text.proofs.Writing.{put_no_column, put_column_short, put_lent}
 use Rattle.text.proofs.put_number.Goals as goal
+use Rattle.text.proofs.put_number.Goals.{else-width-gt0-via-then-width-gt0+then-at-out+else-width-out, else-width-gt0-via-then-width-gt0+else-at-out, else-width-gt0-via-else-width-gt0}
 
-pub returns-then-width-eq0 : goal.returns-then-width-eq0
-returns-then-width-eq0 c =
+pub returns-then-width-out : goal.returns-then-width-out
+returns-then-width-out c =
     let x = c.args in
-    sym (put_no_column x.out.now x.at x.width x.v c.if-width-eq0.true)
+    let wide : length (take (x.at + x.width - x.at) (drop x.at x.out.now)) ≡ x.width = simp (length-take, length-drop) (omega arith) in
+    rw (c.put_digits.ensures, wide) (put_lent x.out.now x.at x.width x.v c.if-at-out.true c.if-width-out.true)
 
-pub returns-then-out-at : goal.returns-then-out-at
-returns-then-out-at c =
+pub returns-else-width-gt0 : goal.returns-else-width-gt0
+returns-else-width-gt0 c =
     let x = c.args in
-    sym (put_column_short x.out.now x.at x.width x.v (omega arith))
-
-pub returns-then-out-at-2 : goal.returns-then-out-at-2
-returns-then-out-at-2 c =
-    let x = c.args in
-    sym (put_column_short x.out.now x.at x.width x.v (omega arith))
-
-pub returns : goal.returns
-returns c =
-    let x = c.args in
-    c.put_digits.ensures ∙ sym (put_column x.out.now x.at x.width x.v (omega arith))
+    elim c.else-width-gt0.branch [
+      | else-width-gt0-via-then-width-gt0+then-at-out+else-width-out w ↦ sym (put_column_short x.out.now x.at x.width x.v (omega arith))
+      | else-width-gt0-via-then-width-gt0+else-at-out w ↦ sym (put_column_short x.out.now x.at x.width x.v (omega arith))
+      | else-width-gt0-via-else-width-gt0 w ↦ sym (put_no_column x.out.now x.at x.width x.v (omega arith))
+    ]
