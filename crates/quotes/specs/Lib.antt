@@ -1,3 +1,4 @@
 pub mod Quote
 pub mod Cap
 pub mod Bounds
+pub mod Register

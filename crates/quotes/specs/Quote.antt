@@ -1,12 +1,13 @@
 -- Document 01, "What each operation gives", Quote.
 -- Assumes nothing.
-use Rattle.std.specs.Prelude.{Bool, true, false, ℕ, ◌+◌, leb, eqb}
+use Rattle.std.specs.Prelude.{Result, Ok, Err, ℕ, ◌+◌, leb, eqb}
 use Rattle.common.specs.Choice.{pick, first_of}
+use Rattle.refusals.specs.declared.Refusal.{Refusal}
+use Rattle.refusals.specs.Numbers.{refusal_number}
 use Rattle.terms.specs.declared.Terms.{Terms}
 use Rattle.terms.specs.Rules.{refusal_of}
 use Rattle.election.specs.Price.{contribution_of}
-use Rattle.quotes.specs.declared.QuoteAnswer.{QuoteAnswer}
-use Rattle.quotes.specs.declared.QuoteAnswer.TheVariants.{Refused, Made}
+use Rattle.quotes.specs.declared.QuoteMade.{QuoteMade}
 use Rattle.quotes.specs.declared.Quoted.{Quoted}
 
 -- what a quote gives, in document 01's numbers: the refusal (0 none), the contribution, the next number, and the last
@@ -34,14 +35,9 @@ quote_of t existing last =
     (record { refusal = quote_refusal t existing last; contribution = 0; next = 0; register = last })
 
 -- document 01's numbers for each case of an answer, beside the register
-abbrev pub answer_numbers : QuoteAnswer → ℕ → QuoteNumbers
-answer_numbers (Refused n) register = record { refusal = n; contribution = 0; next = 0; register = register }
-answer_numbers (Made c n) register = record { refusal = 0; contribution = c.0; next = n; register = register }
+abbrev pub answer_numbers : Result QuoteMade Refusal → ℕ → QuoteNumbers
+answer_numbers (Err r) register = record { refusal = refusal_number r; contribution = 0; next = 0; register = register }
+answer_numbers (Ok q) register = record { refusal = 0; contribution = q.contribution.0; next = q.number; register = register }
 
 abbrev pub numbers_of_quote : Quoted → QuoteNumbers
 numbers_of_quote q = answer_numbers q.answer q.register.last
-
--- whether an answer is a refusal
-abbrev pub quote_is_refused : QuoteAnswer → Bool
-quote_is_refused (Refused n) = true
-quote_is_refused (Made c n) = false

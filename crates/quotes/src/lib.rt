@@ -2,67 +2,64 @@
 #![tactic(auto)]
 
 ghost use Rattle.std.specs.Prelude.{◌≡◌, ltb};
-ghost use Rattle.quotes.specs.Quote.{quote_of, numbers_of_quote, quote_is_refused};
+ghost use Rattle.refusals.specs.Numbers.{is_refused};
+ghost use Rattle.quotes.specs.Quote.{answer_numbers, quote_of, numbers_of_quote};
+ghost use Rattle.quotes.specs.Register.{last_after};
 ghost use Rattle.quotes.specs.Cap.{cap_decision_of, GreatestUnderCap};
 
+use election::Election;
 use money::{ContributionPence, PensionPence};
+use refusals::Refusal;
 use terms::Terms;
 
 // The register of quotes: the last number that was given.
-#[derive(Clone, Copy)]
+#[derive(Clone, Copy, Debug, PartialEq, Eq)]
 pub struct Register {
     pub last: u32,
 }
 
-#[derive(Clone, Copy)]
-pub enum QuoteAnswer {
-    Refused(u32),
-    Made {
-        contribution: ContributionPence,
-        number: u32,
-    },
+// What an election costs, and the number under which it was quoted.
+#[derive(Clone, Copy, Debug, PartialEq, Eq)]
+pub struct QuoteMade {
+    pub contribution: ContributionPence,
+    pub number: u32,
 }
 
 // The answer to a request, with the register handed back.
-#[derive(Clone, Copy)]
+#[derive(Clone, Copy, Debug, PartialEq, Eq)]
 pub struct Quoted {
-    pub answer: QuoteAnswer,
+    pub answer: Result<QuoteMade, Refusal>,
     pub register: Register,
 }
 
 // The last number of a register that is full.
 pub const LAST_NUMBER: u32 = 999999;
 
-fn refused_quote(n: u32, register: Register) -> Quoted
-    ensures { result ≡ record { answer = QuoteAnswer.Refused n; register = register } }
+// The contribution and the next number; or the first of the refusals 1 to 9.
+fn answer(t: Terms, existing: PensionPence, register: Register) -> Result<QuoteMade, Refusal>
+    ensures is { answer_numbers result (last_after result register.last) ≡ quote_of t existing.0 register.last }
+    ensures refused { is_refused result ≡ ltb 0 (quote_of t existing.0 register.last).refusal }
 {
-    Quoted {
-        answer: QuoteAnswer::Refused(n),
-        register,
+    let election = Election::new(t, existing)?;
+    if LAST_NUMBER <= register.last {
+        return Err(Refusal::NoNumberLeft);
     }
+    Ok(QuoteMade {
+        contribution: election.cost(),
+        number: register.last + 1,
+    })
 }
 
-// The contribution and the next number; or the first of the refusals 1 to 9, and the register as it was.
+// The same with the register handed back: as it was, where the request is refused.
 pub fn quote(t: Terms, existing: PensionPence, register: Register) -> Quoted
     ensures is { numbers_of_quote result ≡ quote_of t existing.0 register.last }
-    ensures refused { quote_is_refused result.answer ≡ ltb 0 (quote_of t existing.0 register.last).refusal }
+    ensures refused { is_refused result.answer ≡ ltb 0 (quote_of t existing.0 register.last).refusal }
 {
-    let rates = election::rates_of(t);
-    let refusal = election::refusal_of(t, rates, existing);
-    if refusal != 0 {
-        return refused_quote(refusal, register);
-    }
-    if LAST_NUMBER <= register.last {
-        return refused_quote(9, register);
-    }
-    let contribution = election::cost(t, rates);
-    let number = register.last + 1;
+    let answer = answer(t, existing, register);
+    let last = answer.map_or(register.last, |quote| quote.number);
     Quoted {
-        answer: QuoteAnswer::Made {
-            contribution,
-            number,
-        },
-        register: Register { last: number },
+        answer,
+        register: Register { last },
     }
 }
 
