@@ -1,4 +1,3 @@
-pub mod Range
 pub mod Reading
 pub mod Marks
 pub mod Row

@@ -1,23 +1,23 @@
 -- Mark digits read one at a time.
 -- Assumes nothing.
-use mathlib.Core.Bool.{Bool, true, false, not, ◌||◌}
+use mathlib.Core.Bool.{true, false}
+use Rattle.std.proofs.Common.{inl, inr}
 use mathlib.Core.List.{List, [], ◌∷◌, ◌++◌, append-nil}
-use mathlib.Core.Path.{◌≡◌, sym, ap, subst, ◌∙◌}
+use mathlib.Core.Path.{◌≡◌, sym, ap, ◌∙◌}
 use Prim.Native.Nat.{ℕ, ◌+◌, ◌-◌, ◌<◌, ◌≤◌}
 use native.Mathlib.Numerals.{add-one}
 use native.Mathlib.Omega.{arith}
-use borrow.Author.Tests.{le-ltb}
-use lib.Dec.{T, ltb}
+use borrow.Author.Tests.{lt-ltb, le-ltb}
+use Rattle.std.specs.Char.{IsNotAsciiDigit}
 use lib.ListN.{length, take, drop, get_or, set, length-set, drop_of_length-le}
 use lib.Seq.{drop-cons, take-suc-set, append_snoc}
 use Rattle.case_line.specs.Shape.{all_digits, marks_in}
-use Rattle.case_line.specs.Steps.{DigitsRead}
-use Rattle.case_line.proofs.Range.{either_wrong}
 
 module _ (l : List ℕ) (i : ℕ) where
-  pub no_digit : i < length l → ltb (get_or l i 0) 48 || ltb 57 (get_or l i 0) ≡ true → all_digits (drop i l) ≡ false
+  pub no_digit : i < length l → IsNotAsciiDigit (get_or l i 0) → all_digits (drop i l) ≡ false
   unfolding all_digits
-  no_digit h e = rw (drop-cons l i 0) (either_wrong (ltb (get_or l i 0) 48) (ltb 57 (get_or l i 0)) false _ e)
+  no_digit h (inl low) = rw (drop-cons l i 0, lt-ltb (get_or l i 0) 48 low)
+  no_digit h (inr high) = rw (drop-cons l i 0, le-ltb (get_or l i 0) 48 (omega arith), lt-ltb 57 (get_or l i 0) high)
 
   mark_digit : i < length l → 48 ≤ get_or l i 0 → get_or l i 0 ≤ 57 → all_digits (drop i l) ≡ all_digits (drop (i + 1) l)
   unfolding all_digits
@@ -49,14 +49,10 @@ mark_more l old ms i s h room low high =
           ∙ ap (λ (r : List ℕ). r ++ rest) (sym more);
     }
 
-pub not_all_digits : (l ms : List ℕ) → all_digits l ≡ false → DigitsRead l ms false
-not_all_digits l ms e = record { whether = sym e; are = λ t. absurd (subst (λ (b : Bool). T (not b)) t tt) }
-
-pub marks_end : (l old ms : List ℕ) (i : ℕ) → DigitsPassed l old ms i → length l ≤ i → DigitsRead l ms true
+pub marks_end : (l old ms : List ℕ) (i : ℕ) → DigitsPassed l old ms i → length l ≤ i → (all_digits l ≡ true) × (take (length l) ms ≡ marks_in l)
 unfolding all_digits marks_in
 marks_end l old ms i s h =
-    let all : length l ≡ i = omega (arith, s.within) in
-    record {
-      whether = sym (s.digits ∙ rw (drop_of_length-le l h));
-      are = λ _. sym (s.numbers ∙ rw (drop_of_length-le l h) (append-nil (take i ms)) ∙ ap (λ (n : ℕ). take n ms) (sym all));
-    }
+    let all : length l ≡ i = omega (arith, s.within) in (
+      s.digits ∙ rw (drop_of_length-le l h),
+      sym (s.numbers ∙ rw (drop_of_length-le l h) (append-nil (take i ms)) ∙ ap (λ (n : ℕ). take n ms) (sym all)),
+    )

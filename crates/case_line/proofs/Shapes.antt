@@ -1,6 +1,6 @@
 -- Which line of the listing each shape of a line has.
 -- Assumes nothing.
-use mathlib.Core.Bool.{Bool, true, false, ◌||◌}
+use mathlib.Core.Bool.{true, false}
 use mathlib.Core.List.{List}
 use mathlib.Core.Path.{◌≡◌, sym, ap, ◌∙◌}
 use Prim.Native.Nat.{ℕ, ◌-◌, ◌<◌, ◌≤◌}
@@ -12,29 +12,25 @@ use lib.Seq.{take_all}
 use Rattle.common.proofs.Choice.{either}
 use Rattle.settlement.specs.Settle.{settle_of}
 use Rattle.case_line.specs.declared.Case.{Case}
-use Rattle.case_line.specs.declared.Fields.{Fields}
-use Rattle.case_line.specs.declared.Fields.TheVariants.{Whole, WrongShape}
-use Rattle.case_line.specs.Shape.{fields_of, all_digits}
+use Rattle.std.proofs.Common.{Option, Some, None}
+use Rattle.case_line.specs.Shape.{fields_of, all_digits, marks_in}
 use Rattle.case_line.specs.Line.{fields_bytes, longest_line, listed_bytes, listed_as, wrong_shape, settled_line, line_of}
-use Rattle.case_line.specs.Steps.{DigitsRead}
-use Rattle.case_line.proofs.Range.{either_wrong}
 use Rattle.case_line.proofs.Row.{length_listed}
 
-module _ (c : Case) {digits marks : List ℕ} {r : Bool} (read : DigitsRead digits marks r) where
-  pub wrong_marks : r ≡ false → settled_line (Whole c) digits ≡ wrong_shape
+module _ (c : Case) (digits : List ℕ) where
+  pub wrong_marks : all_digits digits ≡ false → settled_line (Some c) digits ≡ wrong_shape
   unfolding settled_line
-  wrong_marks f = rw (sym read.whether ∙ f)
+  wrong_marks f = rw f
 
-  pub settled_line_lem : r ≡ true → settled_line (Whole c) digits ≡ listed_as c.election (settle_of c.terms (take (length digits) marks))
+  pub settled_line_lem : (marks : List ℕ) → all_digits digits ≡ true → take (length digits) marks ≡ marks_in digits
+      → settled_line (Some c) digits ≡ listed_as c.election (settle_of c.terms (take (length digits) marks))
   unfolding settled_line
-  settled_line_lem t =
-      rw (sym read.whether ∙ t)
-      (ap (λ (ms : List ℕ). listed_as c.election (settle_of c.terms ms)) (sym (read.are t)))
+  settled_line_lem marks t are = rw t (ap (λ (ms : List ℕ). listed_as c.election (settle_of c.terms ms)) (sym are))
 
 module _ (line : List ℕ) where
-  pub not_in_length : ltb (length line) fields_bytes || ltb longest_line (length line) ≡ true → line_of line ≡ wrong_shape
+  pub too_short : length line < fields_bytes → line_of line ≡ wrong_shape
   unfolding line_of
-  not_in_length e = either_wrong (ltb (length line) fields_bytes) (ltb longest_line (length line)) _ _ e
+  too_short h = rw (lt-ltb (length line) fields_bytes h)
 
   pub too_long : fields_bytes ≤ length line → longest_line < length line → line_of line ≡ wrong_shape
   unfolding line_of
@@ -45,24 +41,24 @@ module _ (line : List ℕ) where
     unfolding line_of
     in_length = rw (le-ltb (length line) fields_bytes low, le-ltb longest_line (length line) high)
 
-    pub no_fields : fields_of line ≡ WrongShape → line_of line ≡ wrong_shape
+    pub no_fields : fields_of line ≡ None → line_of line ≡ wrong_shape
     unfolding settled_line
     no_fields e = in_length ∙ rw e
 
     -- the digits are the whole rest of the line
-    pub whole_line : {c : Case} → fields_of line ≡ Whole c → line_of line ≡ settled_line (Whole c) (take (length line - fields_bytes) (drop fields_bytes line))
+    pub whole_line : {c : Case} → fields_of line ≡ Some c → line_of line ≡ settled_line (Some c) (take (length line - fields_bytes) (drop fields_bytes line))
     whole_line e =
-        in_length ∙ ap (λ (f : Fields). settled_line f (drop fields_bytes line)) e
+        in_length ∙ ap (λ (f : Option Case). settled_line f (drop fields_bytes line)) e
         ∙ ap (settled_line _) (sym (take_all (length line - fields_bytes) (drop fields_bytes line) (omega (arith, length-drop fields_bytes line))))
 
 length_wrong : length wrong_shape ≡ listed_bytes
 unfolding wrong_shape
 length_wrong = length_listed _ _
 
-length_settled : (f : Fields) (digits : List ℕ) → length (settled_line f digits) ≡ listed_bytes
+length_settled : (f : Option Case) (digits : List ℕ) → length (settled_line f digits) ≡ listed_bytes
 unfolding settled_line
-length_settled WrongShape digits = length_wrong
-length_settled (Whole c) digits = either (λ (l : List ℕ). length l ≡ listed_bytes) (all_digits digits) (length_listed _ _) length_wrong
+length_settled None digits = length_wrong
+length_settled (Some c) digits = either (λ (l : List ℕ). length l ≡ listed_bytes) (all_digits digits) (length_listed _ _) length_wrong
 
 -- a line of the listing has 46 bytes
 pub length_line : (line : List ℕ) → length (line_of line) ≡ listed_bytes

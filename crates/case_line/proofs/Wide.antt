@@ -6,7 +6,7 @@ use Prim.Native.Nat.{ℕ, ◌<◌, ◌≤◌, ◌^◌}
 use native.Mathlib.Nat.{pow-le-pow_right}
 use native.Mathlib.Omega.{arith}
 use lib.ListN.{length, take, length-take}
-use Rattle.text.specs.declared.Field.TheVariants.{Number}
+use Rattle.std.proofs.Common.{Some}
 use Rattle.text.specs.Field.{field_of}
 use Rattle.text.specs.Column.{column_of}
 use Rattle.text.proofs.ReadBack.{column_read, field_below}
@@ -29,8 +29,8 @@ settled_reads_back t marks =
     }
 
 -- an election number is read from as many columns as it is written in
-pub election_reads_back : (line : List ℕ) (election : ℕ) → field_of (columns 1 6 line) ≡ Number election
-    → field_of (column_of 6 election) ≡ Number election
+pub election_reads_back : (line : List ℕ) (election : ℕ) → field_of (columns 1 6 line) ≡ Some election
+    → field_of (column_of 6 election) ≡ Some election
 election_reads_back line election e =
     let below : election < 10 ^ length (take 6 line) = field_below (take 6 line) election e in
     let small : election < 1000000 = six (take 6 line) (omega (arith, length-take 6 line)) below in

@@ -1,13 +1,11 @@
 -- Document 01, "The case file": one line of the file to one line of the listing.
 -- Assumes nothing.
-use Rattle.std.specs.Prelude.{List, [], ◌∷◌, ◌++◌, ◌≡◌, ℕ, ltb, length, drop}
+use Rattle.std.specs.Prelude.{List, [], ◌∷◌, ◌++◌, ◌≡◌, Option, Some, None, ℕ, ltb, length, drop}
 use Rattle.common.specs.Choice.{pick}
-use Rattle.text.specs.declared.Field.TheVariants.{Number}
 use Rattle.text.specs.Field.{field_of}
 use Rattle.text.specs.Column.{column_of}
 use Rattle.settlement.specs.Settle.{SettleNumbers, settle_of}
-use Rattle.case_line.specs.declared.Fields.{Fields}
-use Rattle.case_line.specs.declared.Fields.TheVariants.{Whole, WrongShape}
+use Rattle.case_line.specs.declared.Case.{Case}
 use Rattle.case_line.specs.Shape.{fields_of, all_digits, marks_in}
 
 -- bytes before the marks, in the longest line, and in a line of the listing with its line end
@@ -37,9 +35,9 @@ unfoldable pub wrong_shape : List ℕ
 wrong_shape = listed_as 0 (record { refusal = 15; place = 0; contribution = 0; status = 0; credit = 0; refund = 0 })
 
 -- fields and marks, settled as Settle does, under the election's own number
-unfoldable pub settled_line : Fields → List ℕ → List ℕ
-settled_line WrongShape digits = wrong_shape
-settled_line (Whole c) digits = pick (all_digits digits) (listed_as c.election (settle_of c.terms (marks_in digits))) wrong_shape
+unfoldable pub settled_line : Option Case → List ℕ → List ℕ
+settled_line None digits = wrong_shape
+settled_line (Some c) digits = pick (all_digits digits) (listed_as c.election (settle_of c.terms (marks_in digits))) wrong_shape
 
 -- a line of 29 to 285 bytes has its eight fields and up to 256 marks; any other shape is 15
 unfoldable pub line_of : List ℕ → List ℕ
@@ -50,9 +48,9 @@ line_of line =
 
 -- the fields of the listing after the election number read back as the numbers that are written there
 pub record ListedReadBack (n : SettleNumbers) : Type 0 where
-  pub refusal : field_of (column_of 3 n.refusal) ≡ Number n.refusal
-  pub place : field_of (column_of 4 n.place) ≡ Number n.place
-  pub status : field_of (column_of 2 n.status) ≡ Number n.status
-  pub contribution : field_of (column_of 10 n.contribution) ≡ Number n.contribution
-  pub credit : field_of (column_of 10 n.credit) ≡ Number n.credit
-  pub refund : field_of (column_of 10 n.refund) ≡ Number n.refund
+  pub refusal : field_of (column_of 3 n.refusal) ≡ Some n.refusal
+  pub place : field_of (column_of 4 n.place) ≡ Some n.place
+  pub status : field_of (column_of 2 n.status) ≡ Some n.status
+  pub contribution : field_of (column_of 10 n.contribution) ≡ Some n.contribution
+  pub credit : field_of (column_of 10 n.credit) ≡ Some n.credit
+  pub refund : field_of (column_of 10 n.refund) ≡ Some n.refund

@@ -1,24 +1,21 @@
 -- Document 01, "The case file": what a line says.
 -- Assumes nothing.
-use Rattle.std.specs.Prelude.{Bool, true, false, List, [], ◌∷◌, ℕ, ◌-◌, ltb, take, drop}
+use Rattle.std.specs.Prelude.{Bool, true, false, List, [], ◌∷◌, Option, Some, None, ℕ, ◌-◌, ltb, take, drop}
 use Rattle.common.specs.Choice.{pick}
-use Rattle.text.specs.declared.Field.{Field}
-use Rattle.text.specs.declared.Field.TheVariants.{Number, NoNumber}
 use Rattle.text.specs.Field.{field_of}
-use Rattle.case_line.specs.declared.Fields.{Fields}
-use Rattle.case_line.specs.declared.Fields.TheVariants.{Whole, WrongShape}
+use Rattle.case_line.specs.declared.Case.{Case}
 
 -- the columns from a to b, counted from 1
 abbrev pub columns : ℕ → ℕ → List ℕ → List ℕ
 columns a b line = take (b - (a - 1)) (drop (a - 1) line)
 
--- the wrong shape where a field says no number, else what follows from its number
-abbrev pub on_number : Field → (ℕ → Fields) → Fields
-on_number (Number n) next = next n
-on_number NoNumber next = WrongShape
+-- nothing, a wrong shape, where a field says no number, else what follows from its number
+abbrev pub on_number : Option ℕ → (ℕ → Option Case) → Option Case
+on_number (Some n) next = next n
+on_number None next = None
 
 -- the eight fields in their columns; years and months are those of the pension age
-unfoldable pub fields_of : List ℕ → Fields
+unfoldable pub fields_of : List ℕ → Option Case
 fields_of line =
     on_number (field_of (columns 1 6 line)) (λ election.
     on_number (field_of (columns 7 9 line)) (λ age.
@@ -28,7 +25,7 @@ fields_of line =
     on_number (field_of (columns 18 19 line)) (λ payer.
     on_number (field_of (columns 20 22 line)) (λ term.
     on_number (field_of (columns 23 29 line)) (λ amount.
-    Whole (record {
+    Some (record {
       election = election;
       terms = record { age = age; pnpa_years = years; pnpa_months = months; option = option; payer = payer; term = term; amount = amount };
     })))))))))

@@ -1,17 +1,15 @@
 -- Not rules: what the steps of settling a line promise each other.
 -- Assumes nothing.
-use Rattle.std.specs.Prelude.{Bool, true, false, List, ◌≡◌, ℕ, length, take}
-use Rattle.text.specs.declared.Field.{Field}
-use Rattle.text.specs.declared.Field.TheVariants.{Number, NoNumber}
-use Rattle.case_line.specs.declared.Said.{Said}
+use Rattle.std.specs.Prelude.{true, false, List, ◌≡◌, Option, Some, None, ℕ, length, take}
 use Rattle.case_line.specs.Shape.{all_digits, marks_in}
-
--- a field's number, and whether it says one
-abbrev pub said_by : Field → Said
-said_by (Number n) = record { right = true; number = n }
-said_by NoNumber = record { right = false; number = 0 }
+use Rattle.case_line.specs.Line.{wrong_shape}
 
 -- whether all are digits, and their numbers where they are
-pub record DigitsRead (digits marks : List ℕ) (r : Bool) : Type 0 where
-  pub whether : r ≡ all_digits digits
-  pub are : r ≡ true → take (length digits) marks ≡ marks_in digits
+abbrev pub DigitsRead : List ℕ → List ℕ → Option (Unit {0}) → Type 0
+DigitsRead digits marks (Some _) = (all_digits digits ≡ true) × (take (length digits) marks ≡ marks_in digits)
+DigitsRead digits marks None = all_digits digits ≡ false
+
+-- the line of the listing for a line of the right shape, and else that for a wrong one
+abbrev pub row_or_wrong_shape : Option (List ℕ) → List ℕ
+row_or_wrong_shape (Some row) = row
+row_or_wrong_shape None = wrong_shape

@@ -1,37 +1,20 @@
 // One line of the case file to one line of the listing.
 #![tactic(auto)]
 
-ghost use Rattle.std.specs.Prelude.{◌≡◌, ◌-◌, ◌≤◌, length, take, drop};
-ghost use Rattle.text.specs.Field.{field_of};
+ghost use Rattle.std.specs.Prelude.{◌≡◌, ◌≤◌, length};
 ghost use Rattle.settlement.specs.Six.{as_settle_numbers};
-ghost use Rattle.case_line.specs.declared.Fields.TheVariants.{Whole};
 ghost use Rattle.case_line.specs.Shape.{fields_of};
-ghost use Rattle.case_line.specs.Line.{fields_bytes, listed_as, wrong_shape, settled_line, line_of};
-ghost use Rattle.case_line.specs.Steps.{said_by, DigitsRead};
+ghost use Rattle.case_line.specs.Line.{fields_bytes, listed_as, wrong_shape, line_of};
+ghost use Rattle.case_line.specs.Steps.{row_or_wrong_shape, DigitsRead};
 
 use settlement::SixNumbers;
 use terms::Terms;
-use text::Field;
 
 // What the fields before the marks say.
 #[derive(Clone, Copy)]
 struct Case {
     election: u32,
     terms: Terms,
-}
-
-// The fields before the marks: whole where each says a number.
-#[derive(Clone, Copy)]
-enum Fields {
-    Whole(Case),
-    WrongShape,
-}
-
-// Whether a field says a number, and which, 0 where none.
-#[derive(Clone, Copy)]
-struct Said {
-    right: bool,
-    number: u32,
 }
 
 // The bytes before the marks.
@@ -46,77 +29,43 @@ const MOST_DIGITS: usize = 256;
 // The bytes of a line of the listing, its end included.
 pub const LISTED_BYTES: usize = 46;
 
-// What the bytes from one index up to another say.
-fn said_in(line: &[u8], from: usize, to: usize) -> Said
-    requires { (from ≤ to) × (to ≤ length line.now) }
-    ensures { result ≡ said_by (field_of (take (to - from) (drop from line.now))) }
-{
-    match text::number_in(&line[from..to]) {
-        Field::Number(number) => Said {
-            right: true,
-            number,
-        },
-        Field::NoNumber => Said {
-            right: false,
-            number: 0,
-        },
-    }
-}
-
-// The eight fields, each in its own bytes.
-fn read_fields(line: &[u8]) -> Fields
+// The eight fields, each in its own bytes, where each says a number.
+fn read_fields(line: &[u8]) -> Option<Case>
     requires { fields_bytes ≤ length line.now }
     ensures { result ≡ fields_of line.now }
 {
-    let election = said_in(line, 0, 6);
-    let age = said_in(line, 6, 9);
-    let years = said_in(line, 9, 12);
-    let months = said_in(line, 12, 15);
-    let option = said_in(line, 15, 17);
-    let payer = said_in(line, 17, 19);
-    let term = said_in(line, 19, 22);
-    let amount = said_in(line, 22, 29);
-    if election.right
-        & age.right
-        & years.right
-        & months.right
-        & option.right
-        & payer.right
-        & term.right
-        & amount.right
-    {
-        let terms = Terms {
-            age: age.number,
-            pnpa_years: years.number,
-            pnpa_months: months.number,
-            option: option.number,
-            payer: payer.number,
-            term: term.number,
-            amount: amount.number,
-        };
-        return Fields::Whole(Case {
-            election: election.number,
-            terms,
-        });
-    }
-    Fields::WrongShape
+    let election = text::number_in(&line[0..6])?;
+    let age = text::number_in(&line[6..9])?;
+    let years = text::number_in(&line[9..12])?;
+    let months = text::number_in(&line[12..15])?;
+    let option = text::number_in(&line[15..17])?;
+    let payer = text::number_in(&line[17..19])?;
+    let term = text::number_in(&line[19..22])?;
+    let amount = text::number_in(&line[22..29])?;
+    let terms = Terms {
+        age,
+        pnpa_years: years,
+        pnpa_months: months,
+        option,
+        payer,
+        term,
+        amount,
+    };
+    Some(Case { election, terms })
 }
 
-// The numbers of the digits, put into marks, and whether all are digits.
-fn read_digits(digits: &[u8], marks: &mut [u8]) -> bool
+// Puts the numbers of the digits into marks, if all are digits.
+fn read_digits(digits: &[u8], marks: &mut [u8]) -> Option<()>
     requires { length digits.now ≤ length marks.old }
     ensures { DigitsRead digits.now marks.new result }
 {
-    let mut i = 0;
-    while i < digits.len() {
-        let b = digits[i];
-        if (b < b'0') | (b'9' < b) {
-            return false;
+    for (i, b) in digits.iter().enumerate() {
+        if !b.is_ascii_digit() {
+            return None;
         }
-        marks[i] = b - b'0';
-        i += 1;
+        marks[i] = *b - b'0';
     }
-    true
+    Some(())
 }
 
 // A line of the listing: the election and the six numbers, each at the right of its field, and the line end.
@@ -152,31 +101,27 @@ fn wrong_shape() -> [u8; LISTED_BYTES]
     )
 }
 
-// The listing's line for fields and the mark digits behind them.
-fn settle_case(case: Case, digits: &[u8]) -> [u8; LISTED_BYTES]
-    requires { length digits.now ≤ 256 }
-    ensures { result ≡ settled_line (Whole case) digits.now }
+// The listing's line for a line of the right shape: 29 to 285 bytes, eight fields that say numbers, and digits behind them.
+fn settle_shape(line: &[u8]) -> Option<[u8; LISTED_BYTES]>
+    ensures { row_or_wrong_shape result ≡ line_of line.now }
 {
-    let mut marks = [0u8; MOST_DIGITS];
-    let right = read_digits(digits, &mut marks);
-    if right {
-        let count = digits.len();
-        let election = case.election;
-        let answer = settlement::settle(case.terms, &marks[..count]);
-        return listed(election, settlement::six_numbers_of(answer));
+    if line.len() < FIELDS_BYTES || line.len() > LONGEST_LINE {
+        return None;
     }
-    wrong_shape()
+    let case = read_fields(line)?;
+    let digits = &line[FIELDS_BYTES..];
+    let mut marks = [0u8; MOST_DIGITS];
+    read_digits(digits, &mut marks)?;
+    let answer = settlement::settle(case.terms, &marks[..digits.len()]);
+    Some(listed(case.election, settlement::six_numbers_of(answer)))
 }
 
 // The listing's line for a line of the file, whatever its bytes are.
 pub fn settle_line(line: &[u8]) -> [u8; LISTED_BYTES]
     ensures { result ≡ line_of line.now }
 {
-    if (line.len() < FIELDS_BYTES) | (LONGEST_LINE < line.len()) {
-        return wrong_shape();
-    }
-    match read_fields(line) {
-        Fields::Whole(case) => settle_case(case, &line[FIELDS_BYTES..]),
-        Fields::WrongShape => wrong_shape(),
+    match settle_shape(line) {
+        Some(row) => row,
+        None => wrong_shape(),
     }
 }

@@ -1,21 +1,20 @@
 -- Bytes of which none ends a line, and those up to a line end.
 -- Assumes nothing.
-use mathlib.Core.Bool.{Bool, not}
+use mathlib.Core.Bool.{Bool}
 use mathlib.Core.List.{List, [], ◌∷◌, ◌++◌, append-nil}
-use mathlib.Core.Path.{◌≡◌, refl, sym, ap, ◌∙◌}
-use Prim.Native.Nat.{ℕ, suc, ◌+◌, ◌-◌, ◌<◌, ◌≤◌}
+use mathlib.Core.Path.{◌≡◌, refl, sym, ap, subst, ◌∙◌}
+use Prim.Native.Nat.{ℕ, suc, ◌+◌, ◌-◌, ◌<◌}
+use native.Mathlib.Numerals.{add-one}
 use native.Mathlib.Omega.{arith}
 use borrow.Author.Tests.{ne_eqb, eqb-true, eqb-false, ltb-true, ltb-false}
 use lib.Dec.{ltb, eqb}
-use lib.ListN.{length, get_or, take, drop, length-drop}
-use lib.Seq.{take-suc, get_or-drop, take_all, append_snoc}
+use lib.ListN.{length, get_or, take, drop, length-drop, take-append-drop}
+use lib.Seq.{drop-cons, take_all, append_snoc}
 use Rattle.case_line.specs.Line.{line_of}
 use Rattle.common.proofs.Tests.{by_test}
-use Rattle.std.proofs.Common.{Option, Some, None}
-use Rattle.std.proofs.lemmas.List.Sums.{prefix_len-le-length}
-use Rattle.std.specs.List.{position, position_or_len, slice_range}
+use Rattle.std.proofs.Common.{Some, None}
+use Rattle.std.specs.List.{position, position_or_len}
 use Rattle.casefile.specs.Stream.{open_after, written_by, taken_with}
-use Rattle.casefile.specs.Steps.{NoEnd, none, more, EndFound}
 use Rattle.casefile.proofs.Chunks.{open_append, written_append}
 
 -- a line end
@@ -26,21 +25,10 @@ is_end b = eqb b 10
 abbrev pub index_of_end : List ℕ → ℕ
 index_of_end l = position_or_len is_end l
 
--- what a search of the bytes gives is that index
-module _ (l : List ℕ) {r : Option ℕ} (searched : r ≡ position is_end l) where
-  pub index_given : {n : ℕ} → r ≡ Some n → (n ≡ index_of_end l) × (n < length l)
-  index_given e =
-      let is = sym e ∙ searched in
-      by_test (ltb (index_of_end l) (length l))
-      (λ t. let k = rw t at is in let same : _ ≡ index_of_end l = cc in (same, omega (arith, same, ltb-true _ _ t)))
-      (λ t. let k = rw t at is in cc)
-
-  pub none_given : r ≡ None → length l ≡ index_of_end l
-  none_given e =
-      let is = sym e ∙ searched in
-      by_test (ltb (index_of_end l) (length l))
-      (λ t. let k = rw t at is in cc)
-      (λ t. omega (arith, ltb-false _ _ t, prefix_len-le-length (λ (b : ℕ). not (is_end b)) l))
+-- no byte ends a line
+pub data NoEnd : List ℕ → Type 0 where
+  none : NoEnd []
+  more : {b : ℕ} {bs : List ℕ} → (b ≡ 10 → ⊥) → NoEnd bs → NoEnd (b ∷ bs)
 
 -- no line end stands before it
 none_before : (l : List ℕ) → NoEnd (take (index_of_end l) l)
@@ -58,27 +46,38 @@ ends_there (b ∷ l) h =
     (λ e. rw e (eqb-true b 10 e))
     (λ e. let k = rw e at h in rw e (rw one (ends_there l (omega (arith, k)))))
 
--- what a search of the chunk from `start` finds
-pub end_found : (chunk : List ℕ) (start : ℕ) {r : ℕ} → r ≡ start + index_of_end (slice_range chunk start (length chunk))
-    → r ≤ length chunk → EndFound chunk start r
-end_found chunk start {r} is within =
-    let all : slice_range chunk start (length chunk) ≡ drop start chunk = take_all (length chunk - start) (drop start chunk) (omega (arith, length-drop start chunk)) in
-    let there : r ≡ start + index_of_end (drop start chunk) = is ∙ ap (λ (q : List ℕ). start + index_of_end q) all in
-    let past : r - start ≡ index_of_end (drop start chunk) = omega (arith, there) in
-    record {
-      after = omega (arith, there);
-      within = within;
-      before = rw past (none_before (drop start chunk));
-      ends = λ k. ap (λ (n : ℕ). get_or chunk n 0) there ∙ sym (get_or-drop start chunk (index_of_end (drop start chunk)) 0)
-          ∙ ends_there (drop start chunk) (omega (arith, there, k, length-drop start chunk));
-    }
+-- the first line end stands at n, between what is before it and what is left behind it
+pub record FirstEnd (l : List ℕ) (n : ℕ) : Type 0 where
+  pub within : n < length l
+  pub before : NoEnd (take n l)
+  pub cut : l ≡ take n l ++ 10 ∷ take (length l - (n + 1)) (drop (n + 1) l)
 
-module _ (chunk : List ℕ) (start i : ℕ) (after : start ≤ i) (within : i < length chunk) where
-  pub next_byte : take (suc (i - start)) (drop start chunk) ≡ take (i - start) (drop start chunk) ++ (get_or chunk i 0 ∷ [])
-  next_byte =
-      let at : start + (i - start) ≡ i = omega arith in
-      take-suc (drop start chunk) (i - start) 0 (omega (arith, length-drop start chunk))
-      ∙ ap (λ (b : ℕ). take (i - start) (drop start chunk) ++ (b ∷ [])) (get_or-drop start chunk (i - start) 0 ∙ ap (λ (n : ℕ). get_or chunk n 0) at)
+left_behind : (l : List ℕ) (n : ℕ) → drop (suc n) l ≡ take (length l - (n + 1)) (drop (n + 1) l)
+left_behind l n = rw add-one (sym (take_all (length l - suc n) (drop (suc n) l) (omega (arith, length-drop (suc n) l))))
+
+-- what a search gives
+pub end_given : (l : List ℕ) {n : ℕ} → Some n ≡ position is_end l → FirstEnd l n
+end_given l {n} e =
+    by_test (ltb (index_of_end l) (length l))
+    (λ t. let k = rw t at e in let same : index_of_end l ≡ n = cc in
+    let within : n < length l = omega (arith, same, ltb-true _ _ t) in
+    record {
+      within = within;
+      before = subst (λ (i : ℕ). NoEnd (take i l)) same (none_before l);
+      cut =
+          sym (take-append-drop n l)
+          ∙ ap (λ (r : List ℕ). take n l ++ r) (drop-cons l n 0 within)
+          ∙ ap (λ (b : ℕ). take n l ++ b ∷ drop (suc n) l)
+          (ap (λ (i : ℕ). get_or l i 0) (sym same) ∙ ends_there l (omega (arith, ltb-true _ _ t)))
+          ∙ ap (λ (m : List ℕ). take n l ++ 10 ∷ m) (left_behind l n);
+    })
+    (λ t. let k = rw t at e in cc)
+
+pub none_given : (l : List ℕ) → None ≡ position is_end l → NoEnd l
+none_given l e =
+    by_test (ltb (index_of_end l) (length l))
+    (λ t. let k = rw t at e in cc)
+    (λ t. subst NoEnd (take_all (index_of_end l) l (ltb-false _ _ t)) (none_before l))
 
 pub no_end_open : (p s : List ℕ) → NoEnd s → open_after p s ≡ p ++ s
 unfolding open_after

@@ -9,13 +9,12 @@ use lib.ListN.{length, take, drop, length-append, length-take}
 use lib.Seq.{take_at, take_all}
 use Rattle.common.proofs.Choice.{either}
 use Rattle.case_line.specs.Line.{listed_bytes}
-use Rattle.casefile.specs.declared.OpenLine.{OpenLine}
+use Rattle.casefile.specs.declared.open_line.OpenLine.{OpenLine}
 use Rattle.casefile.specs.declared.ChunkSettled.{ChunkSettled}
-use Rattle.casefile.specs.declared.EndSettled.{EndSettled}
 use Rattle.casefile.specs.File.{listing_of}
 use Rattle.casefile.specs.Stream.{kept_bytes, open_after, written_by, taken_with, bytes_of}
-use Rattle.casefile.specs.Stream.{ChunkNumbers, numbers_of_chunk, taken_of, chunk_of, end_of, Calls, at_end, on_chunk}
-use Rattle.casefile.proofs.Last.{end_within, end_writes}
+use Rattle.casefile.specs.Stream.{ChunkNumbers, numbers_of_chunk, taken_of, chunk_of, row_bytes, Calls, at_end, on_chunk}
+use Rattle.casefile.proofs.Last.{end_writes}
 use Rattle.casefile.proofs.Chunks.{written_at_end, open_append, written_append, listing_from, written_kept, end_kept, open_kept}
 
 taken_within : (n : ℕ) (l : List ℕ) → taken_with n l ≤ length l
@@ -70,18 +69,14 @@ module _ (o : OpenLine) (chunk out out' : List ℕ) (r : ChunkSettled) (is : num
       ap (λ (n : ChunkNumbers). take r.wrote n.out) by_taken ∙ take_at w (drop (length w) out) r.wrote (sym wrote_is)
 
 -- at the start all of an open line is kept
-pub all_kept : (o : OpenLine) → length o.bytes ≡ kept_bytes → bytes_of o ≡ take kept_bytes (open_after (bytes_of o) [])
+pub all_kept : (o : OpenLine) → bytes_of o ≡ take kept_bytes (open_after (bytes_of o) [])
 unfolding open_after
-all_kept o long = sym (take_all kept_bytes (bytes_of o) (omega (arith, length-take o.len o.bytes)))
-
--- the end writes no more than it has
-pub end_wrote : (o : OpenLine) {r : EndSettled} → r ≡ end_of (bytes_of o) → r.wrote ≤ listed_bytes
-end_wrote o e = rw e (end_within (bytes_of o))
+all_kept o = sym (take_all kept_bytes (bytes_of o) (omega (arith, length-take o.len o.bytes, o.fits)))
 
 calls_write : {o : OpenLine} {file written : List ℕ} → Calls o file written
     → written ≡ written_by (bytes_of o) file ++ written_at_end (open_after (bytes_of o) file)
 unfolding open_after written_by
-calls_write {o} (at_end told) = ap (λ (r : EndSettled). take r.wrote r.bytes) told ∙ end_writes (bytes_of o)
+calls_write {o} (at_end told) = ap row_bytes told ∙ end_writes (bytes_of o)
 calls_write (on_chunk o chunk out out' rest written r is calls) =
     let p = bytes_of o in
     let part = take r.taken chunk in

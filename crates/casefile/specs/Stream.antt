@@ -1,11 +1,10 @@
 -- Document 01, "The case file", in chunks. Between two chunks only the open line is kept: the bytes since the last line end, of which one more
 -- than the longest line has stand for any more, since both are too long.
 -- Assumes nothing.
-use Rattle.std.specs.Prelude.{List, [], ◌∷◌, ◌++◌, ◌≡◌, ℕ, zero, suc, ◌/◌, eqb, length, take, drop, replicate}
+use Rattle.std.specs.Prelude.{List, [], ◌∷◌, ◌++◌, ◌≡◌, ℕ, zero, suc, ◌/◌, eqb, length, take, drop, Option, Some, None}
 use Rattle.common.specs.Choice.{pick}
-use Rattle.casefile.specs.declared.OpenLine.{OpenLine}
+use Rattle.casefile.specs.declared.open_line.OpenLine.{OpenLine}
 use Rattle.casefile.specs.declared.ChunkSettled.{ChunkSettled}
-use Rattle.casefile.specs.declared.EndSettled.{EndSettled}
 use Rattle.case_line.specs.Line.{listed_bytes, longest_line, line_of}
 
 -- the bytes of an open line that are kept
@@ -58,15 +57,20 @@ taken_of p chunk out n =
 unfoldable pub chunk_of : List ℕ → List ℕ → List ℕ → ChunkNumbers
 chunk_of p chunk out = taken_of p chunk out (taken_with (length out / listed_bytes) chunk)
 
--- what the end of the file gives: the open line's line of the listing; where none is open, nothing, and zeros
-unfoldable pub end_of : List ℕ → EndSettled
-end_of [] = record { bytes = replicate listed_bytes 0; wrote = 0 }
-end_of (b ∷ bs) = record { bytes = line_of (b ∷ bs); wrote = listed_bytes }
+-- what the end of the file gives: the open line's line of the listing; nothing where none is open
+unfoldable pub end_of : List ℕ → Option (List ℕ)
+end_of [] = None
+end_of (b ∷ bs) = Some (line_of (b ∷ bs))
+
+-- the bytes that are written for it
+abbrev pub row_bytes : Option (List ℕ) → List ℕ
+row_bytes None = []
+row_bytes (Some row) = row
 
 -- Any calls one after the other, then the call at the end: the open line before them, the bytes that they work through
 -- and the bytes that they write.
 pub data Calls : OpenLine → List ℕ → List ℕ → Type 0 where
-  at_end : {o : OpenLine} {r : EndSettled} → r ≡ end_of (bytes_of o) → Calls o [] (take r.wrote r.bytes)
+  at_end : {o : OpenLine} {r : Option (List ℕ)} → r ≡ end_of (bytes_of o) → Calls o [] (row_bytes r)
   on_chunk : (o : OpenLine) (chunk out out' rest written : List ℕ) (r : ChunkSettled)
       → numbers_of_chunk r out' ≡ chunk_of (bytes_of o) chunk out → Calls r.after rest written
       → Calls o (take r.taken chunk ++ rest) (take r.wrote out' ++ written)

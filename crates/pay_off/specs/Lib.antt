@@ -2,3 +2,4 @@ pub mod Price
 pub mod PayOff
 pub mod Clauses
 pub mod Bounds
+pub mod Sums

@@ -1,14 +1,15 @@
 -- Request 1 of document 02: paying off the rest of a contract.
 -- Assumes nothing.
-use Rattle.std.specs.Prelude.{Bool, true, false, ◌||◌, List, ℕ, ◌+◌, ◌-◌, ltb, eqb}
+use Rattle.std.specs.Prelude.{Bool, ◌||◌, Result, Ok, Err, List, ℕ, ◌+◌, ◌-◌, ltb, eqb}
 use Rattle.common.specs.Choice.{pick}
 use Rattle.scheme.specs.Scheme.{pounds_in_pence}
+use Rattle.refusals.specs.declared.Refused.{Refused}
+use Rattle.refusals.specs.Numbers.{refusal_number}
 use Rattle.rates.specs.Rates.{lump_rate_of}
 use Rattle.terms.specs.declared.Terms.{Terms}
 use Rattle.terms.specs.Rules.{missing_upper}
 use Rattle.settlement.specs.Settle.{settle_of}
 use Rattle.pay_off.specs.declared.PayOff.{PayOff}
-use Rattle.pay_off.specs.declared.PayOff.TheVariants.{Refused, Priced}
 use Rattle.pay_off.specs.Price.{increased_by, price_of}
 
 -- what a pay-off gives, in document 02's numbers; refusal 0 is none
@@ -82,13 +83,10 @@ pay_off_of t marks age_now increase =
     pick (eqb settled.refusal 0) (contract_pay_off t settled.status settled.credit age_now increase)
     (refused_pay_off settled.refusal settled.place)
 
--- document 02's numbers for each case of an answer
-abbrev pub numbers_of_pay_off : PayOff → PayOffNumbers
-numbers_of_pay_off (Refused n i) = refused_pay_off n i
-numbers_of_pay_off (Priced rest more own) =
-    record { refusal = 0; place = 0; remaining = rest.0; increased = more.0; cost = own.0 }
+-- document 02's numbers of a price, and for each case of an answer
+abbrev pub priced_numbers : PayOff → PayOffNumbers
+priced_numbers p = record { refusal = 0; place = 0; remaining = p.remaining.0; increased = p.increased.0; cost = p.cost.0 }
 
--- whether an answer is a refusal
-abbrev pub pay_off_is_refused : PayOff → Bool
-pay_off_is_refused (Refused n i) = true
-pay_off_is_refused (Priced rest more own) = false
+abbrev pub numbers_of_pay_off : Result PayOff Refused → PayOffNumbers
+numbers_of_pay_off (Err e) = refused_pay_off (refusal_number e.refusal) e.place
+numbers_of_pay_off (Ok p) = priced_numbers p

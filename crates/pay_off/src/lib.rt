@@ -1,33 +1,28 @@
 // Paying off the rest: what a contract lacks of its amount, bought as a lump sum at the age that the member has now.
 #![tactic(auto)]
 
-ghost use Rattle.std.specs.Prelude.{◌≡◌, false, ◌||◌, ◌+◌, ◌≤◌, ◌<◌, ◌^◌, ltb, eqb};
-ghost use Rattle.common.specs.Choice.{pick};
+ghost use Rattle.std.specs.Prelude.{◌≡◌, IfOk, ◌+◌, ◌≤◌, ◌<◌, ◌^◌, ltb};
 ghost use Rattle.common.specs.Calendar.{months_in_year};
+ghost use Rattle.refusals.specs.Numbers.{refusal_in, is_refused};
 ghost use Rattle.money.specs.Contribution.{contribution};
-ghost use Rattle.terms.specs.Rules.{missing_upper};
-ghost use Rattle.election.specs.TermsAccepted.{TermsAccepted};
+ghost use Rattle.marks.specs.Numbers.{status_number};
 ghost use Rattle.pay_off.specs.Price.{price_of};
-ghost use Rattle.pay_off.specs.PayOff.{most_increase, nothing_to_pay_off, wrong_increase, lump_sum_now, priced_pay_off, pay_off_of, numbers_of_pay_off, pay_off_is_refused};
+ghost use Rattle.pay_off.specs.PayOff.{most_increase, nothing_to_pay_off, wrong_increase, contract_refusal, priced_pay_off, pay_off_of, priced_numbers, numbers_of_pay_off};
+ghost use Rattle.pay_off.specs.Sums.{SumsLookedUp, upper_or_none};
 ghost use Rattle.pay_off.specs.Clauses.{PayOffPriced, PayOffRefusals};
 
-use election::TableRates;
+use election::{Election, TableRates};
+use marks::Status;
 use money::{ContributionPence, PensionPence};
+use refusals::{Refusal, Refused};
 use terms::Terms;
 
-// The answer: a refusal, or what remains and what it costs.
-#[derive(Clone, Copy)]
-pub enum PayOff {
-    // the refusal, and the index of a mark that Settle refuses
-    Refused {
-        refusal: u32,
-        place: usize,
-    },
-    Priced {
-        remaining: PensionPence,
-        increased: PensionPence,
-        cost: ContributionPence,
-    },
+// What remains, the same increased, and what that costs.
+#[derive(Clone, Copy, Debug, PartialEq, Eq)]
+pub struct PayOff {
+    pub remaining: PensionPence,
+    pub increased: PensionPence,
+    pub cost: ContributionPence,
 }
 
 // The increases that are taken, in thousandths.
@@ -44,81 +39,59 @@ pub fn price(increased: PensionPence, lower: u32, upper: u32, months: u32) -> Co
     increased.costs(unit, rounding::twelfths(months, lower, upper))
 }
 
-fn nothing_to_pay_off(status: u32) -> bool
-    ensures { result ≡ nothing_to_pay_off status }
+#[tactic(auto, unfolding(crate::specs::PayOff::nothing_to_pay_off))]
+fn nothing_to_pay_off(status: Status) -> bool
+    ensures { result ≡ nothing_to_pay_off (status_number status) }
 {
-    if status == 0 {
-        return true;
-    }
-    if status == 5 {
-        return true;
-    }
-    status == 6
+    matches!(
+        status,
+        Status::NoMarksYet | Status::Refunded | Status::LumpSum
+    )
 }
 
+#[tactic(auto, using(common::proofs::Tests::tests), unfolding(crate::specs::PayOff::wrong_increase))]
 fn wrong_increase(increase: u32) -> bool
     ensures { result ≡ wrong_increase increase }
 {
-    if increase < LEAST_INCREASE {
-        return true;
-    }
-    MOST_INCREASE < increase
+    increase < LEAST_INCREASE || MOST_INCREASE < increase
 }
 
-// The lump sums at the age now, as an election by lump sum looks them up; the upper one is needed with odd months only. They are not
-// asked of `rates` here: with a second caller its lookup would no longer be inlined into the first (docs/SPEED.md).
-fn lump_sums_now(t: Terms, age_now: u32) -> TableRates
-    ensures lower { result.lower ≡ lump_sum_now t age_now t.pnpa_years }
-    ensures upper { (t.pnpa_months ≡ 0 → ⊥) → result.upper ≡ lump_sum_now t age_now (t.pnpa_years + 1) }
+// The lump sums at the age now, as an election by lump sum looks them up, that a contract which Settle accepts is paid off at; or the
+// first of 16, 17 and 5. They are not asked of `rates` here: with a second caller its lookup would no longer be inlined into the first
+// (docs/SPEED.md).
+fn lump_sums_now(
+    t: Terms,
+    status: Status,
+    age_now: u32,
+    increase: u32,
+) -> Result<TableRates, Refusal>
+    ensures refusal { refusal_in result ≡ contract_refusal t (status_number status) age_now increase }
+    ensures sums { IfOk result (λ sums. SumsLookedUp t age_now sums) }
 {
-    election::rates_of(Terms {
+    if nothing_to_pay_off(status) {
+        return Err(Refusal::NothingToPayOff);
+    }
+    if wrong_increase(increase) {
+        return Err(Refusal::WrongIncrease);
+    }
+    TableRates::of(Terms {
         age: age_now,
-        pnpa_years: t.pnpa_years,
-        pnpa_months: t.pnpa_months,
-        option: t.option,
-        payer: t.payer,
         term: 0,
-        amount: t.amount,
+        ..t
     })
 }
 
-fn no_lump_sum(t: Terms, sums: TableRates) -> bool
-    ensures { result ≡ eqb sums.lower 0 || missing_upper t sums.upper }
+// What a contract lacks beside its credit, and what that costs. A whole pension age weighs no upper lump sum.
+fn priced(e: Election, credit: PensionPence, sums: TableRates, increase: u32) -> PayOff
+    requires { increase ≤ most_increase }
+    ensures { priced_numbers result ≡ priced_pay_off e.terms credit.0 sums.lower (upper_or_none sums) increase }
 {
-    if sums.lower == 0 {
-        return true;
-    }
-    election::missing_upper(t, sums.upper)
-}
-
-// The first of 16, 17 and 5 that refuses a contract which Settle accepts, else 0.
-fn contract_refusal(t: Terms, status: u32, sums: TableRates, increase: u32) -> u32
-    ensures { result ≡ pick (nothing_to_pay_off status) 16 (pick (wrong_increase increase) 17 (pick (eqb sums.lower 0 || missing_upper t sums.upper) 5 0)) }
-{
-    if nothing_to_pay_off(status) {
-        return 16;
-    }
-    if wrong_increase(increase) {
-        return 17;
-    }
-    if no_lump_sum(t, sums) {
-        return 5;
-    }
-    0
-}
-
-// What a contract lacks beside its credit, and what that costs.
-fn priced(t: Terms, credit: PensionPence, sums: TableRates, increase: u32) -> PayOff
-    requires terms_accepted { TermsAccepted t 0 }
-    requires increase_le_most_increase { increase ≤ most_increase }
-    ensures is { numbers_of_pay_off result ≡ priced_pay_off t credit.0 sums.lower sums.upper increase }
-    ensures accepted { pay_off_is_refused result ≡ false }
-{
-    let whole = PensionPence::of_pounds(t.amount);
+    let whole = PensionPence::of_pounds(e.terms.amount);
     let remaining = whole.less(credit);
     let increased = remaining.increased(increase);
-    let cost = price(increased, sums.lower, sums.upper, t.pnpa_months);
-    PayOff::Priced {
+    let upper = sums.upper.unwrap_or(0);
+    let cost = price(increased, sums.lower, upper, e.terms.pnpa_months);
+    PayOff {
         remaining,
         increased,
         cost,
@@ -128,25 +101,14 @@ fn priced(t: Terms, credit: PensionPence, sums: TableRates, increase: u32) -> Pa
 // The remaining pension, the same increased by so many thousandths, and its cost; or the first refusal and its place. The age now is
 // not compared with the age at the election. Settle's refusals and credit come from the two functions that `settle` asks for them: a
 // second place that calls `settle` would cost its host call more (docs/SPEED.md).
-pub fn pay_off(t: Terms, marks: &[u8], age_now: u32, increase: u32) -> PayOff
+pub fn pay_off(t: Terms, marks: &[u8], age_now: u32, increase: u32) -> Result<PayOff, Refused>
     ensures is { numbers_of_pay_off result ≡ pay_off_of t marks.now age_now increase }
     ensures priced { PayOffPriced t marks.now (numbers_of_pay_off result) }
     ensures refusals { PayOffRefusals t marks.now age_now increase (numbers_of_pay_off result) }
-    ensures refused { pay_off_is_refused result ≡ ltb 0 (pay_off_of t marks.now age_now increase).refusal }
+    ensures refused { is_refused result ≡ ltb 0 (pay_off_of t marks.now age_now increase).refusal }
 {
-    let e = examination::examine(t, marks);
-    if e.refusal != 0 {
-        return PayOff::Refused {
-            refusal: e.refusal,
-            place: e.place,
-        };
-    }
-    let sums = lump_sums_now(t, age_now);
-    let refusal = contract_refusal(t, e.status, sums, increase);
-    if refusal != 0 {
-        return PayOff::Refused { refusal, place: 0 };
-    }
-    let rates = e.rates;
-    let credit = settlement::credit_at_status(t, rates, e.status, marks);
-    priced(t, credit, sums, increase)
+    let e = examination::examine(t, marks)?;
+    let sums = lump_sums_now(t, e.status, age_now, increase)?;
+    let credit = settlement::credit_at_status(e.election, e.status, marks);
+    Ok(priced(e.election, credit, sums, increase))
 }

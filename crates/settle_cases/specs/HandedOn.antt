@@ -1,17 +1,25 @@
 -- Not rules: the open line between two reads of the program.
 -- Assumes nothing.
-use Rattle.std.specs.Prelude.{List, ◌≡◌, ℕ, ◌<◌, length, take}
-use Rattle.casefile.specs.declared.OpenLine.{OpenLine}
+use Rattle.std.specs.Prelude.{List, ◌≡◌, ℕ, ◌≤◌, length, take, Result, Ok, Err}
+use Rattle.casefile.specs.declared.open_line.OpenLine.{OpenLine}
 use Rattle.casefile.specs.Stream.{kept_bytes, open_after, bytes_of}
-use Rattle.settle_cases.specs.declared.Next.{Next}
-use Rattle.settle_cases.specs.declared.Next.TheVariants.{ReadOn, AtEnd, ReadFailed, WriteFailed}
+use Rattle.settle_cases.specs.declared.Failure.{Failure}
+use Rattle.settle_cases.specs.declared.Failure.TheVariants.{Reading, Writing}
 
--- the open line that is handed on, by what comes next, where `before` was open and `read` are the bytes that were read
-abbrev pub HandedOn : OpenLine → List ℕ → OpenLine → Next → Type 0
--- something was read, and of the line that is open after it the first bytes are kept
-HandedOn before read after ReadOn = (0 < length read) × (bytes_of after ≡ take kept_bytes (open_after (bytes_of before) read))
+-- of the line that is open after what was read the first bytes are kept, and where nothing was read it stays as it was
+pub record KeptAfter (before : OpenLine) (read : List ℕ) (after : OpenLine) : Type 0 where
+  pub same : length read ≡ 0 → after ≡ before
+  pub kept : bytes_of after ≡ take kept_bytes (open_after (bytes_of before) read)
+
+-- what was read is settled and printed, or printing failed
+abbrev pub Printed : OpenLine → List ℕ → Result OpenLine Failure → Type 0
+Printed before read (Ok after) = KeptAfter before read after
+Printed before read (Err failure) = failure ≡ Writing
+
+-- the open line that is handed on by a read into the buffer, where `before` was open: after as many bytes as were read
+abbrev pub HandedOn : OpenLine → List ℕ → OpenLine → Result ℕ Failure → Type 0
+HandedOn before chunk after (Ok n) = (n ≤ length chunk) × KeptAfter before (take n chunk) after
 -- nothing was read, and the open line stays as it was
-HandedOn before read after AtEnd = (length read ≡ 0) × (after ≡ before)
-HandedOn before read after ReadFailed = (length read ≡ 0) × (after ≡ before)
+HandedOn before chunk after (Err Reading) = after ≡ before
 -- the program stops, and does not look at the open line again
-HandedOn before read after WriteFailed = Unit {0}
+HandedOn before chunk after (Err Writing) = Unit {0}

@@ -1,15 +1,34 @@
 -- `case_line::read_fields` meets its contract.
 -- Assumes nothing.
-use mathlib.Core.Bool.{true, false}
-use Rattle.case_line.proofs.Reading.{fields_are}
+use Rattle.std.proofs.Common.{sym, ◌∙◌}
+use Rattle.case_line.proofs.Reading.{no_election, no_age, no_years, no_months, no_option, no_payer, no_term, no_amount, fields_are}
 use Rattle.case_line.proofs.read_fields.Goals as goal
 
-pub returns-then-election-age : goal.returns-then-election-age
-returns-then-election-age c =
-    fields_are c.args.line.now c.said_in-election.ensures c.said_in-age.ensures c.said_in-years.ensures
-    c.said_in-months.ensures c.said_in-option.ensures c.said_in-payer.ensures c.said_in-term.ensures c.said_in-amount.ensures true c.if-election-age.true
+pub returns-in_err-election : goal.returns-in_err-election
+returns-in_err-election c = c.from_residual.ensures ∙ sym (no_election c.args.line.now (sym c.number_in.ensures ∙ c.in_err-election.was))
+
+pub returns-in_err-age : goal.returns-in_err-age
+returns-in_err-age c = c.from_residual-in_err-age.ensures ∙ sym (no_age c.args.line.now (sym c.number_in.ensures ∙ c.in_ok-election.was) (sym c.number_in-2.ensures ∙ c.in_err-age.was))
+
+pub returns-in_err-years : goal.returns-in_err-years
+returns-in_err-years c = c.from_residual-in_err-years.ensures ∙ sym (no_years c.args.line.now (sym c.number_in.ensures ∙ c.in_ok-election.was) (sym c.number_in-2.ensures ∙ c.in_ok-age.was) (sym c.number_in-3.ensures ∙ c.in_err-years.was))
+
+pub returns-in_err-months : goal.returns-in_err-months
+returns-in_err-months c = c.from_residual-in_err-months.ensures ∙ sym (no_months c.args.line.now (sym c.number_in.ensures ∙ c.in_ok-election.was) (sym c.number_in-2.ensures ∙ c.in_ok-age.was) (sym c.number_in-3.ensures ∙ c.in_ok-years.was) (sym c.number_in-4.ensures ∙ c.in_err-months.was))
+
+pub returns-in_err-option : goal.returns-in_err-option
+returns-in_err-option c = c.from_residual-in_err-option.ensures ∙ sym (no_option c.args.line.now (sym c.number_in.ensures ∙ c.in_ok-election.was) (sym c.number_in-2.ensures ∙ c.in_ok-age.was) (sym c.number_in-3.ensures ∙ c.in_ok-years.was) (sym c.number_in-4.ensures ∙ c.in_ok-months.was) (sym c.number_in-5.ensures ∙ c.in_err-option.was))
+
+pub returns-in_err-payer : goal.returns-in_err-payer
+returns-in_err-payer c = c.from_residual-in_err-payer.ensures ∙ sym (no_payer c.args.line.now (sym c.number_in.ensures ∙ c.in_ok-election.was) (sym c.number_in-2.ensures ∙ c.in_ok-age.was) (sym c.number_in-3.ensures ∙ c.in_ok-years.was) (sym c.number_in-4.ensures ∙ c.in_ok-months.was) (sym c.number_in-5.ensures ∙ c.in_ok-option.was) (sym c.number_in-6.ensures ∙ c.in_err-payer.was))
+
+pub returns-in_err-term : goal.returns-in_err-term
+returns-in_err-term c = c.from_residual-in_err-term.ensures ∙ sym (no_term c.args.line.now (sym c.number_in.ensures ∙ c.in_ok-election.was) (sym c.number_in-2.ensures ∙ c.in_ok-age.was) (sym c.number_in-3.ensures ∙ c.in_ok-years.was) (sym c.number_in-4.ensures ∙ c.in_ok-months.was) (sym c.number_in-5.ensures ∙ c.in_ok-option.was) (sym c.number_in-6.ensures ∙ c.in_ok-payer.was) (sym c.number_in-7.ensures ∙ c.in_err-term.was))
+
+pub returns-in_err-amount : goal.returns-in_err-amount
+returns-in_err-amount c = c.from_residual-in_err-amount.ensures ∙ sym (no_amount c.args.line.now (sym c.number_in.ensures ∙ c.in_ok-election.was) (sym c.number_in-2.ensures ∙ c.in_ok-age.was) (sym c.number_in-3.ensures ∙ c.in_ok-years.was) (sym c.number_in-4.ensures ∙ c.in_ok-months.was) (sym c.number_in-5.ensures ∙ c.in_ok-option.was) (sym c.number_in-6.ensures ∙ c.in_ok-payer.was) (sym c.number_in-7.ensures ∙ c.in_ok-term.was) (sym c.number_in-8.ensures ∙ c.in_err-amount.was))
 
 pub returns : goal.returns
 returns c =
-    fields_are c.args.line.now c.said_in-election.ensures c.said_in-age.ensures c.said_in-years.ensures
-    c.said_in-months.ensures c.said_in-option.ensures c.said_in-payer.ensures c.said_in-term.ensures c.said_in-amount.ensures false c.if-election-age.false
+    sym
+    (fields_are c.args.line.now (sym c.number_in.ensures ∙ c.in_ok-election.was) (sym c.number_in-2.ensures ∙ c.in_ok-age.was) (sym c.number_in-3.ensures ∙ c.in_ok-years.was) (sym c.number_in-4.ensures ∙ c.in_ok-months.was) (sym c.number_in-5.ensures ∙ c.in_ok-option.was) (sym c.number_in-6.ensures ∙ c.in_ok-payer.was) (sym c.number_in-7.ensures ∙ c.in_ok-term.was) (sym c.number_in-8.ensures ∙ c.in_ok-amount.was))

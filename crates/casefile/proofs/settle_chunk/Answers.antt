@@ -1,47 +1,32 @@
--- `casefile::settle_chunk` meets its contract. The invariant: what is taken of the chunk is settled.
+-- `casefile::settle_chunk` meets its contract. The invariant: what is gone of the chunk is settled.
 -- Assumes nothing.
-use mathlib.Core.Path.{◌≡◌}
-use Prim.Native.Nat.{◌-◌, ◌<◌, ◌≤◌}
-use native.Mathlib.Omega.{arith}
-use lib.ListN.{length, take}
-use Rattle.case_line.specs.Line.{listed_bytes}
-use Rattle.casefile.specs.Stream.{kept_bytes, bytes_of}
-use Rattle.casefile.proofs.Settling.{further, at_start, part_settled, part_moves, chunk_settled}
-use Rattle.casefile.proofs.Keeping.{open_least}
+use Rattle.std.proofs.Common.{◌≡◌, length, take, arith, sym}
+use Rattle.std.proofs.Math.ListN.{length-take}
+use Rattle.std.proofs.lemmas.Slice.{put_mid-paste}
 use borrow.Author.Rules.{rules}
-use Rattle.casefile.proofs.settle_chunk.Goals.{After-least, In-loop-at}
+use borrow.Author.Tests.{eqb-true}
+use Rattle.case_line.specs.Line.{listed_bytes}
+use Rattle.casefile.proofs.Ends.{end_given, none_given}
+use Rattle.casefile.proofs.Settling.{at_start, line_ended, line_goes_on, at_full, at_chunk_end}
 use Rattle.casefile.proofs.settle_chunk.Goals as goal
+use Rattle.casefile.proofs.settle_chunk.Goals.{then-lines-test+else-out-wrote-ge-LISTED_BYTES, else-lines-test}
 
-entry_long : (c : After-least) → length c.args.before.bytes ≡ kept_bytes
-entry_long c = search rules
+pub lines-init : goal.lines-init
+lines-init c = at_start _ _ _ (omega (arith, length-take c.args.before.len c.args.before.bytes, c.args.before.fits))
 
-entry_open : (c : After-least) → take c.least.result c.args.before.bytes ≡ bytes_of c.args.before
-entry_open c = open_least _ _ (entry_long c) c.least.ensures
+pub lines-preserved-in-Some : goal.lines-preserved-in-Some
+lines-preserved-in-Some c =
+    let found = end_given c.lines.rest.now c.in-Some.ensures in
+    let long : length c.end-row.result ≡ listed_bytes = search rules in
+    line_ended c.lines.invariant (omega arith) (take c.in-Some.end c.lines.rest.now) _ found.before found.cut c.end-row.ensures.row
+    c.end-row.ensures.none_open (put_mid-paste c.lines.wrote _ _ _ _ listed_bytes c.copy_from_slice.ensures.after (omega arith) (sym long))
 
-more : (c : In-loop-at)
-    → (c.loop-at.at.taken < length c.args.chunk.now)
-    × (listed_bytes ≤ length c.loop-at.out - c.loop-at.at.wrote)
-more c = further _ _ _ c.loop-at-test.true
-
-pub loop-at-init : goal.loop-at-init
-loop-at-init c = at_start _ _ _ _ (entry_long (goal.at.loop-at-init c).After-least) (omega (arith, c.least.ensures))
-
-pub settle_part-at-requires : goal.settle_part-at-requires
-settle_part-at-requires c =
-    let w = c.loop-at in
-    record { bytes_len = (w.invariant.bytes_long, w.invariant.small); taken_in_bounds = (w.invariant.within, omega (arith, (more (goal.at.settle_part-at-requires c).In-loop-at).1, w.invariant.room, w.invariant.out_long)) }
-
-pub loop-at-smaller : goal.loop-at-smaller
-loop-at-smaller c =
-    let left = (more (goal.at.loop-at-smaller c).In-loop-at).0 in
-    omega (arith, part_moves c.settle_part-at.ensures left, left)
-
-pub loop-at-preserved : goal.loop-at-preserved
-loop-at-preserved c =
-    part_settled c.settle_part-at.ensures c.loop-at.invariant (more (goal.at.loop-at-preserved c).In-loop-at).1 c.settle_part-at.auto.bytes
-
-pub shape_of-out : goal.shape_of-out
-shape_of-out c = c.loop-at.invariant.out_long
+pub lines-preserved : goal.lines-preserved
+lines-preserved c = line_goes_on c.lines.invariant (omega arith) (none_given c.lines.rest.now c.in-None.ensures) c.keep.ensures
 
 pub returns : goal.returns
-returns c = chunk_settled c.args.before (entry_open (goal.at.returns c).After-least) c.loop-at.invariant c.loop-at-test.false
+returns c =
+    elim c.lines-test.branch [
+      | then-lines-test+else-out-wrote-ge-LISTED_BYTES w ↦ at_full c.lines.invariant (omega arith)
+      | else-lines-test w ↦ at_chunk_end c.lines.invariant (eqb-true _ _ (sym w.lines-test.ensures))
+    ]

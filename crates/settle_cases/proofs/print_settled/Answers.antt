@@ -1,69 +1,76 @@
--- `settle_cases::print_settled` meets its contract: the open line is what is kept after the bytes taken, and each call takes some.
-use mathlib.Core.List.{List, ◌++◌}
-use mathlib.Core.Path.{◌≡◌, sym, ap, ◌∙◌}
-use Prim.Native.Nat.{ℕ, ◌+◌, ◌-◌, ◌≤◌, ◌<◌}
-use native.Mathlib.Omega.{arith}
-use lib.ListN.{length, take, drop, length-drop}
-use lib.Seq.{take-take, take-add, length-take-le}
+-- `settle_cases::print_settled` meets its contract: the open line is what is kept after the bytes that are gone, and each call takes some.
+-- Assumes nothing.
+use Rattle.std.proofs.Common.{List, ℕ, [], ◌++◌, ◌-◌, ◌≡◌, ◌≤◌, ◌<◌, length, take, drop, arith, sym, ap, refl, ◌∙◌, append_assoc, length-append, length-drop}
+use lib.ListN.{length-take, take-append-drop}
+use lib.Seq.{take_all}
+use borrow.Author.Rules.{rules}
+use borrow.Author.Tests.{eqb-false}
 use Rattle.case_line.specs.Line.{listed_bytes}
-use Rattle.casefile.specs.declared.OpenLine.{OpenLine}
+use Rattle.casefile.specs.declared.open_line.OpenLine.{OpenLine}
 use Rattle.casefile.specs.declared.ChunkSettled.{ChunkSettled}
-use Rattle.casefile.specs.Stream.{kept_bytes, open_after, bytes_of, numbers_of_chunk, chunk_of}
+use Rattle.casefile.specs.Stream.{bytes_of, numbers_of_chunk, chunk_of}
 use Rattle.casefile.proofs.Laws.{chunk_taken, chunk_moves, chunk_wrote, chunk_keeps, all_kept}
 use Rattle.settle_cases.proofs.print_settled.Invariants.{Kept}
+use Rattle.settle_cases.proofs.print_settled.Given.{Over}
+use Rattle.settle_cases.proofs.print_settled.Goals.{After-settle_chunk-done}
 use Rattle.settle_cases.proofs.print_settled.Goals as goal
 
--- what a call took of the rest of the chunk, wrote and left open
-record Called (before : OpenLine) (chunk : List ℕ) (at : ℕ) (out : List ℕ) (r : ChunkSettled) : Type 0 where
+-- a call on what is left
+record Called (before : OpenLine) (read rest out' : List ℕ) (r : ChunkSettled) : Type 0 where
   some : 0 < r.taken
-  taken : at + r.taken ≤ length chunk
-  wrote : r.wrote ≤ length out
-  kept : Kept before chunk (at + r.taken) r.after
+  taken : r.taken ≤ length rest
+  wrote : r.wrote ≤ length out'
+  kept : Kept before read (take (length rest - r.taken) (drop r.taken rest)) r.after
 
--- two parts of a chunk, one behind the other
-parts : (chunk : List ℕ) (at n : ℕ) → at + n ≤ length chunk
-    → take at chunk ++ take n (take (length chunk - at) (drop at chunk)) ≡ take (at + n) chunk
-parts chunk at n h =
-    ap (λ (l : List ℕ). take at chunk ++ l) (take-take n (length chunk - at) (drop at chunk) (omega arith)) ∙ sym (take-add at n chunk)
-
-called : (before after : OpenLine) (chunk : List ℕ) (at : ℕ) (out out' : List ℕ) (r : ChunkSettled)
-    → listed_bytes ≤ length out → at < length chunk → Kept before chunk at after
-    → numbers_of_chunk r out' ≡ chunk_of (bytes_of after) (take (length chunk - at) (drop at chunk)) out → Called before chunk at out' r
-called before after chunk at out out' r room left kept is =
-    let part = take (length chunk - at) (drop at chunk) in
-    let long : length part ≡ length chunk - at = length-take-le _ _ (omega (arith, length-drop at chunk)) in
-    let within : at + r.taken ≤ length chunk = omega (arith, chunk_taken after part out out' r is) in
+called : {before line : OpenLine} {read rest : List ℕ} (out out' : List ℕ) (r : ChunkSettled) → Kept before read rest line
+    → numbers_of_chunk r out' ≡ chunk_of (bytes_of line) rest out → listed_bytes ≤ length out → (length rest ≡ 0 → ⊥) → Called before read rest out' r
+called {before} {line} {read} {rest} out out' r k is room left =
+    let behind = take (length rest - r.taken) (drop r.taken rest) in
+    let moves : 0 < r.taken = chunk_moves line rest out out' r is room (omega arith) in
+    let all : behind ≡ drop r.taken rest = take_all (length rest - r.taken) (drop r.taken rest) (omega (arith, length-drop r.taken rest)) in
     record {
-      some = chunk_moves after part out out' r is room (omega arith);
-      taken = within;
-      wrote = chunk_wrote after part out out' r is;
-      kept =
-          chunk_keeps after part out out' r is (bytes_of before) (take at chunk) kept
-          ∙ ap (λ (l : List ℕ). take kept_bytes (open_after (bytes_of before) l)) (parts chunk at r.taken within);
+      some = moves;
+      taken = chunk_taken line rest out out' r is;
+      wrote = chunk_wrote line rest out out' r is;
+      kept = record {
+        gone = k.gone ++ take r.taken rest;
+        whole =
+            append_assoc k.gone (take r.taken rest) behind
+            ∙ ap (λ (l : List ℕ). k.gone ++ l) (ap (λ (l : List ℕ). take r.taken rest ++ l) all ∙ take-append-drop r.taken rest)
+            ∙ k.whole;
+        after = record {
+          same = λ e. absurd (omega (arith, e, length-append k.gone (take r.taken rest), length-take r.taken rest));
+          kept = chunk_keeps line rest out out' r is (bytes_of before) k.gone k.after.kept;
+        };
+      };
     }
 
-pub loop-at-init : goal.loop-at-init
-loop-at-init g c =
-    let long : length c.args.before.bytes ≡ kept_bytes = omega arith in
-    record { within = omega arith; kept = all_kept c.args.before long }
+smaller : (rest : List ℕ) (n : ℕ) → 0 < n → n ≤ length rest → length (take (length rest - n) (drop n rest)) < length rest
+smaller rest n some within = omega (arith, length-take (length rest - n) (drop n rest))
 
-pub overflow_add-at : goal.overflow_add-at
-overflow_add-at g c =
-    omega (arith, called c.args.before c.loop-at.after c.args.chunk.now c.loop-at.at c.loop-at.out _ _ (omega arith) c.loop-at-test.true c.loop-at.invariant.kept c.settle_chunk-done.ensures)
+one : (g : Over) (c : After-settle_chunk-done g)
+    → Called c.args.before c.args.read.now c.loop-rest.rest.now c.settle_chunk-done.new.out c.settle_chunk-done.result
+one g c = called c.loop-rest.out c.settle_chunk-done.new.out c.settle_chunk-done.result c.loop-rest.invariant c.settle_chunk-done.ensures (search rules) (eqb-false _ _ (sym c.loop-rest-test.ensures))
 
-pub slice_bounds-write_all-end : goal.slice_bounds-write_all-end
-slice_bounds-write_all-end g c =
-    (called c.args.before c.loop-at.after c.args.chunk.now c.loop-at.at c.loop-at.out _ _ (omega arith) c.loop-at-test.true c.loop-at.invariant.kept c.settle_chunk-done.ensures).wrote
+pub loop-rest-init : goal.loop-rest-init
+loop-rest-init g c = record { gone = []; whole = refl; after = record { same = λ _. refl; kept = all_kept c.args.before } }
 
-pub loop-at-smaller : goal.loop-at-smaller
-loop-at-smaller g c =
-    omega (arith, called c.args.before c.loop-at.after c.args.chunk.now c.loop-at.at c.loop-at.out _ _ (omega arith) c.loop-at-test.true c.loop-at.invariant.kept c.settle_chunk-done.ensures)
+pub shared_ref_as_front-write_all : goal.shared_ref_as_front-write_all
+shared_ref_as_front-write_all g c =
+    let call = one g (goal.at.shared_ref_as_front-write_all g c).After-settle_chunk-done in
+    let long : length c.settle_chunk-done.new.out ≡ 65536 = search rules in
+    omega (arith, call.wrote)
 
-pub loop-at-preserved : goal.loop-at-preserved
-loop-at-preserved g c =
-    let one = called c.args.before c.loop-at.after c.args.chunk.now c.loop-at.at c.loop-at.out _ _ (omega arith) c.loop-at-test.true c.loop-at.invariant.kept c.settle_chunk-done.ensures in
-    record { within = one.taken; kept = one.kept }
+pub slice_bounds-rest-count : goal.slice_bounds-rest-count
+slice_bounds-rest-count g c = (one g (goal.at.slice_bounds-rest-count g c).After-settle_chunk-done).taken
 
-pub slice_bounds-write_all-end-in-loop-at : goal.slice_bounds-write_all-end-in-loop-at
-slice_bounds-write_all-end-in-loop-at g c =
-    sym (length-take-le _ _ (called c.args.before c.loop-at.after c.args.chunk.now c.loop-at.at c.loop-at.out _ _ (omega arith) c.loop-at-test.true c.loop-at.invariant.kept c.settle_chunk-done.ensures).wrote)
+pub slice_bounds-rest-start : goal.slice_bounds-rest-start
+slice_bounds-rest-start g c = (one g (goal.at.slice_bounds-rest-start g c).After-settle_chunk-done).taken
+
+pub loop-rest-smaller : goal.loop-rest-smaller
+loop-rest-smaller g c =
+    let call = one g (goal.at.loop-rest-smaller g c).After-settle_chunk-done in
+    smaller c.loop-rest.rest.now c.settle_chunk-done.result.taken call.some call.taken
+
+pub loop-rest-preserved : goal.loop-rest-preserved
+loop-rest-preserved g c = (one g (goal.at.loop-rest-preserved g c).After-settle_chunk-done).kept

@@ -1,15 +1,18 @@
--- `settle_cases::print_settled`: the open line is what is kept after the bytes taken.
-use Rattle.std.proofs.Common.{List, ℕ, length, take, ◌-◌, ◌≡◌, ◌≤◌}
-use Rattle.casefile.specs.declared.OpenLine.{OpenLine}
-use Rattle.casefile.specs.Stream.{kept_bytes, open_after, bytes_of}
+-- `settle_cases::print_settled`: the open line is what is kept after the bytes that are gone.
+-- Assumes nothing.
+use Rattle.std.proofs.Common.{List, ℕ, length, ◌++◌, ◌≡◌}
+use Rattle.casefile.specs.declared.open_line.OpenLine.{OpenLine}
+use Rattle.settle_cases.specs.HandedOn.{KeptAfter}
 use Rattle.settle_cases.proofs.print_settled.Given as goal
 
--- what is kept after the first `at` bytes of the chunk, where `before` was open
-abbrev pub Kept : OpenLine → List ℕ → ℕ → OpenLine → Type 0
-Kept before chunk at after = bytes_of after ≡ take kept_bytes (open_after (bytes_of before) (take at chunk))
+-- `rest` is left of what was read, and `line` is open before it, where `before` was open
+pub record Kept (before : OpenLine) (read rest : List ℕ) (line : OpenLine) : Type 0 where
+  pub gone : List ℕ
+  pub whole : gone ++ rest ≡ read
+  pub after : KeptAfter before gone line
 
-abbrev pub invariant-loop-at : goal.invariant-loop-at
-invariant-loop-at g l = record { within : l.at ≤ length l.chunk; kept : Kept l.fn.before l.chunk l.at l.after }
+abbrev pub invariant-loop-rest : goal.invariant-loop-rest
+invariant-loop-rest g l = Kept l.initial.line l.read l.rest l.line
 
-abbrev pub decreases-loop-at : goal.decreases-loop-at
-decreases-loop-at g l = length l.chunk - l.at
+abbrev pub decreases-loop-rest : goal.decreases-loop-rest
+decreases-loop-rest g l = length l.rest

@@ -20,7 +20,6 @@ use Rattle.marks.specs.Numbers.{status_number}
 use Rattle.election.proofs.Laws.{contribution_most}
 use Rattle.terms.specs.declared.Terms.{Terms}
 use Rattle.marks.proofs.Counts.{months_most}
-use Rattle.marks.proofs.StatusOf.{not_lump}
 use Rattle.money.specs.Money.{pension}
 use Rattle.money.specs.Contribution.{contribution}
 use Rattle.money.specs.declared.ContributionPence.{ContributionPence}
@@ -29,6 +28,7 @@ use Rattle.settlement.proofs.Demand.{demand_3}
 use Rattle.settlement.proofs.Marks.{marks_answered}
 use Rattle.settlement.proofs.Laws.{settle_refused, settle_settled}
 use Rattle.examination.proofs.Laws.{settled_terms, settled_few}
+use Rattle.examination.proofs.Told.{refusal_stands, unrefused, told_monthly}
 use Rattle.settlement.specs.Demand.{Demand3}
 use Rattle.settlement.specs.Marks.{MarksAnswered}
 use Rattle.examination.specs.Refusal.{settle_refusal}
@@ -50,20 +50,13 @@ module _ (t : Terms) (ms : List ℕ) where
   refuses : (e : Refused) → refusing (refusal_number e.refusal) e.place ≡ settle_refusal t ms
       → refused_numbers (refusal_number e.refusal) e.place ≡ settle_of t ms
   refuses e is =
-      let some : (settle_refusal t ms).number ≡ 0 → ⊥ = λ z. omega (arith, refusal_positive e.refusal, ap (λ (r : RefusedAt). r.number) is, z) in
-      ap (λ (r : RefusedAt). refused_numbers r.number r.place) is ∙ sym (settle_refused t ms some)
+      ap (λ (r : RefusedAt). refused_numbers r.number r.place) is ∙ sym (settle_refused t ms (refusal_stands t ms e is))
 
   module _ (none : refusing 0 0 ≡ settle_refusal t ms) {e : Examined} (told : ExaminedTold t ms e) where
-    unrefused : (settle_refusal t ms).number ≡ 0
-    unrefused = sym (ap (λ (r : RefusedAt). r.number) none)
-
-    monthly : (status_number e.status ≡ 5 → ⊥) → (status_number e.status ≡ 6 → ⊥) → 0 < e.election.terms.term
-    monthly five other = rw told.terms (not_lump open_months t.term ms (rw told.status at other))
-
     small : {k : ContributionPence} → k ≡ contribution (contribution_of e.election.terms) → (k.0 < 2 ^ 32) × (e.paid_months ≤ most_marks)
     small cost =
         rw (cost, told.terms, told.paid)
-        (omega (arith, contribution_most t 0 (settled_terms t ms unrefused), months_most ms, settled_few t ms unrefused))
+        (omega (arith, contribution_most t 0 (settled_terms t ms (unrefused t ms none)), months_most ms, settled_few t ms (unrefused t ms none)))
 
     settles : {k f : ContributionPence} {h : PensionPence} → k ≡ contribution (contribution_of e.election.terms)
         → h ≡ pension (credit_at_status e.election.terms ms (status_number e.status))
@@ -72,7 +65,7 @@ module _ (t : Terms) (ms : List ℕ) where
         (record { refusal = 0; place = 0; contribution = k.0; status = status_number e.status; credit = h.0; refund = f.0 })
         (settle_of t ms)
     unfolding refund_at_status
-    settles cost credit refund = rw (refund, cost, credit, told.terms, told.paid, told.status, settle_settled t ms unrefused)
+    settles cost credit refund = rw (refund, cost, credit, told.terms, told.paid, told.status, settle_settled t ms (unrefused t ms none))
 
 pub returns-in_err-e : goal.returns-in_err-e
 returns-in_err-e c =
@@ -85,8 +78,8 @@ pub credit_at_status-requires : goal.credit_at_status-requires
 credit_at_status-requires c =
     let e = c.in_ok-e.ensures in
     record {
-      monthly = monthly c.args.t c.args.marks.now e.refusal e.told;
-      marks_len_bound = settled_few c.args.t c.args.marks.now (unrefused c.args.t c.args.marks.now e.refusal e.told);
+      monthly = told_monthly c.args.t c.args.marks.now e.refusal e.told;
+      marks_len_bound = settled_few c.args.t c.args.marks.now (unrefused c.args.t c.args.marks.now e.refusal);
     }
 
 pub refund_at_status-requires : goal.refund_at_status-requires
