@@ -7,11 +7,11 @@ ghost use Rattle.money.specs.Money.{pension};
 ghost use Rattle.credit.specs.SoFar.{nothing_yet, credit_at, after_mark, SoFarWithin};
 ghost use Rattle.credit.specs.Credit.{credit_over};
 
-use money::PensionPence;
+use money::{Pence, PensionPence};
 
 // What the marks read so far have earned. A paid run is open from month `from`, where that is not `month` itself;
 // `sum` is what the closed runs earned.
-#[derive(Clone, Copy)]
+#[derive(Clone, Copy, Debug, PartialEq, Eq, Default)]
 pub struct CreditSoFar {
     pub month: u32,
     pub from: u32,
@@ -22,11 +22,7 @@ pub struct CreditSoFar {
 pub fn nothing_yet() -> CreditSoFar
     ensures { result ≡ nothing_yet }
 {
-    CreditSoFar {
-        month: 0,
-        from: 0,
-        sum: PensionPence::none(),
-    }
+    CreditSoFar::default()
 }
 
 // The credit if no mark follows: an open run ends at the present month.
@@ -35,11 +31,12 @@ pub fn credit_at(e: CreditSoFar, years: [u32; 21]) -> PensionPence
     ensures is { result ≡ pension (credit_at nearest years e) }
     ensures small { result.0 ≤ (e.month + 1) * 2 ^ 32 }
 {
-    let sum = e.sum;
     if e.from == e.month {
-        return sum;
+        e.sum
+    } else {
+        let grown = years::month_value(years, e.month).less(years::month_value(years, e.from));
+        e.sum.plus(grown)
     }
-    sum.plus(years::month_value(years, e.month).less(years::month_value(years, e.from)))
 }
 
 // One mark more. The years are looked at only where a run closes.
@@ -48,20 +45,15 @@ pub fn after_mark(e: CreditSoFar, years: [u32; 21], mark: u8) -> CreditSoFar
     ensures is { result ≡ after_mark nearest years e mark }
     ensures within { (result.month ≡ e.month + 1) × (result.sum.0 ≤ result.month * 2 ^ 32) }
 {
-    if mark == 1 {
-        let sum = e.sum;
-        return CreditSoFar {
-            month: e.month + 1,
-            from: e.from,
-            sum,
-        };
-    }
-    let sum = credit_at(e, years);
     let month = e.month + 1;
-    CreditSoFar {
-        month,
-        from: month,
-        sum,
+    if mark == 1 {
+        CreditSoFar { month, ..e }
+    } else {
+        CreditSoFar {
+            month,
+            from: month,
+            sum: credit_at(e, years),
+        }
     }
 }
 
@@ -71,6 +63,7 @@ pub fn credit_over(years: [u32; 21], marks: &[u8]) -> PensionPence
     ensures { result ≡ pension (credit_over nearest years marks.now) }
 {
     let mut sum = PensionPence::none();
+    // A run is passed in one step, and its ends are the months that are valued, so the months are counted here.
     let mut i = 0;
     while i < marks.len() {
         if marks[i] == 1 {

@@ -11,7 +11,7 @@ ghost use Rattle.election.specs.Price.{contribution_of};
 ghost use Rattle.election.specs.LookedUp.{if_printed, rates_of};
 ghost use Rattle.election.specs.TermsAccepted.{TermsAccepted};
 
-use money::{ContributionPence, PensionPence};
+use money::{ContributionPence, Pence, PensionPence};
 use refusals::Refusal;
 use terms::Terms;
 

@@ -8,7 +8,7 @@ ghost use Rattle.examination.specs.Examine.{ExaminedTold};
 
 use election::Election;
 use marks::Status;
-use money::PensionPence;
+use money::{Pence, PensionPence};
 use refusals::Refused;
 use terms::Terms;
 

@@ -2,7 +2,7 @@
 // buys and what a pension costs are the two ways between them.
 #![tactic(auto)]
 
-ghost use Rattle.std.specs.Prelude.{◌≡◌, ◌+◌, ◌*◌, ◌-◌, ◌/◌, ◌<◌, ◌^◌, ltb};
+ghost use Rattle.std.specs.Prelude.{◌≡◌, ℕ, refl, ◌+◌, ◌*◌, ◌-◌, ◌/◌, ◌<◌, ◌^◌, ltb};
 ghost use Rattle.rounding.specs.Nearest.{half_up, nearest, blend, combine};
 ghost use Rattle.common.specs.Calendar.{months_in_year};
 ghost use Rattle.scheme.specs.Scheme.{pounds_in_pence};
@@ -10,6 +10,49 @@ ghost use Rattle.money.specs.Money.{pension};
 ghost use Rattle.money.specs.Contribution.{contribution};
 
 use common::MONTHS_IN_YEAR;
+
+// Pence of one kind, with the arithmetic that is the same for either.
+pub trait Pence: Copy {
+    // so many pence of the kind, and how many a figure has
+    ghost of: { ℕ → Self };
+
+    ghost pence: { Self → ℕ };
+
+    fn of_pence(n: u64) -> Self
+        ensures { result ≡ of n };
+
+    fn in_pence(self) -> u64
+        ensures { result ≡ pence self };
+
+    // a figure is its pence, whatever their number
+    ghost whole: { (x : Self) → of (pence x) ≡ x };
+
+    ghost counted: { (n : ℕ) → pence (of n) ≡ n };
+
+    final fn none() -> Self
+        ensures { result ≡ of 0 }
+    {
+        Self::of_pence(0)
+    }
+
+    // m twelfths of the way to another.
+    final fn blend(self, other: Self, m: u32) -> Self
+        requires { (pence self < 2 ^ 32) × (pence other < 2 ^ 32) }
+        ensures { result ≡ of (blend m (pence self) (pence other)) }
+    {
+        let lower = self.in_pence() as u32;
+        let upper = other.in_pence() as u32;
+        Self::of_pence(rounding::blend(m, lower, upper))
+    }
+
+    // The lower table's figure, combined with the upper's where the pension age has m odd months.
+    final fn combine(self, upper: Self, m: u32) -> Self
+        requires { (pence self < 2 ^ 32) × (pence upper < 2 ^ 32) }
+        ensures { result ≡ of (combine m (pence self) (pence upper)) }
+    {
+        if m == 0 { self } else { self.blend(upper, m) }
+    }
+}
 
 // Pence of pension a year.
 #[derive(Clone, Copy, Debug, PartialEq, Eq, PartialOrd, Ord, Default)]
@@ -20,12 +63,6 @@ pub struct PensionPence(pub u64);
 pub struct ContributionPence(pub u64);
 
 impl PensionPence {
-    pub fn none() -> Self
-        ensures { result ≡ pension 0 }
-    {
-        PensionPence(0)
-    }
-
     // An amount in whole pounds a year.
     pub fn of_pounds(pounds: u32) -> Self
         ensures { result ≡ pension (pounds_in_pence pounds) }
@@ -51,26 +88,20 @@ impl PensionPence {
     pub fn less(self, other: PensionPence) -> Self
         ensures { result ≡ pension (self.0 - other.0) }
     {
-        if self.0 < other.0 {
-            return PensionPence::none();
-        }
-        PensionPence(self.0 - other.0)
+        PensionPence(self.0.saturating_sub(other.0))
     }
 
     pub fn is_above(self, other: PensionPence) -> bool
         ensures { result ≡ ltb other.0 self.0 }
     {
-        other.0 < self.0
+        self > other
     }
 
     // How many whole steps fit into this; none where the step is nothing.
     pub fn whole_steps(self, step: PensionPence) -> u64
         ensures { result ≡ self.0 / step.0 }
     {
-        if step.0 == 0 {
-            return 0;
-        }
-        self.0 / step.0
+        self.0.checked_div(step.0).unwrap_or(0)
     }
 
     // This times so many thousandths, a half penny going up.
@@ -88,34 +119,27 @@ impl PensionPence {
     {
         ContributionPence(rounding::half_up(self.0 * twelfths, MONTHS_IN_YEAR as u64 * unit.0))
     }
+}
 
-    // m twelfths of the way to another.
-    pub fn blend(self, other: PensionPence, m: u32) -> Self
-        requires { (self.0 < 2 ^ 32) × (other.0 < 2 ^ 32) }
-        ensures { result ≡ pension (blend m self.0 other.0) }
-    {
-        PensionPence(rounding::blend(m, self.0 as u32, other.0 as u32))
+impl Pence for PensionPence {
+    ghost of = { pension };
+
+    ghost pence = { λ x. x.0 };
+
+    ghost whole = { λ x. refl };
+
+    ghost counted = { λ n. refl };
+
+    fn of_pence(n: u64) -> Self {
+        PensionPence(n)
     }
 
-    // The lower table's figure, combined with the upper's where the pension age has m odd months.
-    pub fn combine(self, upper: PensionPence, m: u32) -> Self
-        requires { (self.0 < 2 ^ 32) × (upper.0 < 2 ^ 32) }
-        ensures { result ≡ pension (combine m self.0 upper.0) }
-    {
-        if m == 0 {
-            return self;
-        }
-        self.blend(upper, m)
+    fn in_pence(self) -> u64 {
+        self.0
     }
 }
 
 impl ContributionPence {
-    pub fn none() -> Self
-        ensures { result ≡ contribution 0 }
-    {
-        ContributionPence(0)
-    }
-
     // A number of units at a rate in pence for each.
     pub fn of_units(units: u32, rate: u32) -> Self
         ensures { result ≡ contribution (units * rate) }
@@ -138,23 +162,22 @@ impl ContributionPence {
     {
         PensionPence(rounding::nearest(self.0 * unit.0, rate as u64))
     }
+}
 
-    // m twelfths of the way to another.
-    pub fn blend(self, other: ContributionPence, m: u32) -> Self
-        requires { (self.0 < 2 ^ 32) × (other.0 < 2 ^ 32) }
-        ensures { result ≡ contribution (blend m self.0 other.0) }
-    {
-        ContributionPence(rounding::blend(m, self.0 as u32, other.0 as u32))
+impl Pence for ContributionPence {
+    ghost of = { contribution };
+
+    ghost pence = { λ x. x.0 };
+
+    ghost whole = { λ x. refl };
+
+    ghost counted = { λ n. refl };
+
+    fn of_pence(n: u64) -> Self {
+        ContributionPence(n)
     }
 
-    // The lower table's figure, combined with the upper's where the pension age has m odd months.
-    pub fn combine(self, upper: ContributionPence, m: u32) -> Self
-        requires { (self.0 < 2 ^ 32) × (upper.0 < 2 ^ 32) }
-        ensures { result ≡ contribution (combine m self.0 upper.0) }
-    {
-        if m == 0 {
-            return self;
-        }
-        self.blend(upper, m)
+    fn in_pence(self) -> u64 {
+        self.0
     }
 }

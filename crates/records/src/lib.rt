@@ -9,7 +9,7 @@ ghost use Rattle.records.specs.Decision.{Decided};
 ghost use Rattle.records.specs.History.{fresh_record};
 
 use common::MONTHS_IN_YEAR;
-use money::PensionPence;
+use money::{Pence, PensionPence};
 use scheme::MOST_MARKS;
 use settlement::Settlement;
 use terms::Terms;

@@ -13,7 +13,7 @@ ghost use Rattle.reduction.specs.Answer.{reduction_limit_of, numbers_of_reductio
 ghost use Rattle.reduction.specs.Clauses.{ReductionRefusals, ReductionAnswered};
 ghost use Rattle.reduction.specs.Noted.{nothing_noted, noted_at};
 
-use money::PensionPence;
+use money::{Pence, PensionPence};
 
 // What is asked. Any numbers: `reduction_limit` refuses those that are out of range.
 #[derive(Clone, Copy)]

@@ -9,7 +9,7 @@ ghost use Rattle.schedule.specs.Walk.{WalkWithin, WalkTold, held_of, Holdable, S
 use credit::CreditSoFar;
 use election::TableRates;
 use marks::Reading;
-use money::PensionPence;
+use money::{Pence, PensionPence};
 use terms::Terms;
 
 // The answer: a refusal or 0, and where a bad mark stands.

@@ -16,7 +16,7 @@ ghost use Rattle.settlement.specs.Six.{as_settle_numbers};
 
 use election::Election;
 use marks::Status;
-use money::{ContributionPence, PensionPence};
+use money::{ContributionPence, Pence, PensionPence};
 use refusals::Refused;
 use terms::Terms;
 

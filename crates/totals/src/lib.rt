@@ -6,7 +6,7 @@ ghost use Rattle.scheme.specs.Scheme.{cap_pence};
 ghost use Rattle.totals.specs.Total.{most_records, member_total_of};
 ghost use Rattle.totals.specs.Tally.{opening_of, add_of};
 
-use money::PensionPence;
+use money::{Pence, PensionPence};
 use records::Contract;
 
 // What a total answers; the index is that of the first bad record, else 0.

@@ -4,11 +4,11 @@ use Prim.Native.Nat.{ℕ, suc, ◌<◌}
 use native.Mathlib.Omega.{arith}
 use Rattle.rates.specs.Rates.{rate_of}
 use Rattle.rates.proofs.Laws.{rate_falls}
+use Rattle.scheme.specs.Scheme.{step_pence}
 use Rattle.years.specs.Years.{Falling}
-use Rattle.years.specs.Fields.{purchase_by}
 
 pub rates_fall : (option pension_age age term units : ℕ) → 0 < rate_of option pension_age age term
-    → Falling (purchase_by option pension_age age term units)
+    → Falling (record { rate = rate_of option pension_age age; unit = step_pence; units = units; term = term })
 rates_fall o p age term units there =
     record {
       positive = λ n low within. omega (arith, rate_falls o p age n term low within);

@@ -1,3 +1,2 @@
 pub mod Years
 pub mod Elected
-pub mod Fields

@@ -3,15 +3,14 @@
 
 ghost use Rattle.std.specs.Prelude.{◌≡◌, ℕ, ◌*◌, ◌-◌, ◌<◌, ◌≤◌, ◌^◌, get_or};
 ghost use Rattle.rounding.specs.Nearest.{nearest};
-ghost use Rattle.scheme.specs.Scheme.{step_pence, pounds_in_pence};
+ghost use Rattle.scheme.specs.Scheme.{pounds_in_pence};
 ghost use Rattle.money.specs.Money.{pension};
 ghost use Rattle.rates.specs.Rates.{rate_of};
 ghost use Rattle.years.specs.Years.{year_credits, month_value};
 ghost use Rattle.years.specs.Elected.{purchase_in};
-ghost use Rattle.years.specs.Fields.{purchase_by};
 
 use common::MONTHS_IN_YEAR;
-use money::{ContributionPence, PensionPence};
+use money::{ContributionPence, Pence, PensionPence};
 use terms::Terms;
 
 // What a monthly contribution buys in as many years as the rate, which is for so much pension, is for.
@@ -22,57 +21,28 @@ fn year_credit(own: ContributionPence, unit: PensionPence, rate: u32) -> u32
     own.buys(unit, rate).0 as u32
 }
 
-// The row of credits by one table's rates; `rate` is that of the term. Year 0 and the years past the term stay 0.
-fn filled_row(
-    option: u32,
-    pension_age: u32,
-    age: u32,
-    term: u32,
-    units: u32,
-    rate: u32,
-) -> [u32; 21]
-    requires rate_value { rate ≡ rate_of option pension_age age term }
-    requires rate_nonzero { (0 < rate) × (units * step_pence < 2 ^ 32) }
-    ensures is { result ≡ year_credits nearest (purchase_by option pension_age age term units) }
-    ensures most { (n : ℕ) → get_or result n 0 ≤ units * step_pence }
-{
-    let own = ContributionPence::of_units(units, rate);
-    let unit = PensionPence::of_pounds(scheme::STEP);
-    let mut years = [0u32; 21];
-    let mut n: u32 = 1;
-    while n <= term {
-        let yearly = monthly::monthly_rate(option, pension_age, age, n);
-        years[n as usize] = year_credit(own, unit, yearly);
-        n += 1;
-    }
-    years
-}
-
-// The twenty-one whole-year credits of terms at a whole pension age; `rate` is that of the term.
+// The twenty-one whole-year credits of terms at a whole pension age; `rate` is that of the term. Year 0 and the years past the term stay 0.
 pub fn year_credits(t: Terms, pension_age: u32, rate: u32) -> [u32; 21]
     requires rate_value { rate ≡ rate_of t.option pension_age t.age t.term }
     requires rate_nonzero { (0 < rate) × (pounds_in_pence t.amount < 2 ^ 32) }
     ensures is { result ≡ year_credits nearest (purchase_in t pension_age) }
     ensures most { (n : ℕ) → get_or result n 0 ≤ pounds_in_pence t.amount }
 {
-    filled_row(
-        t.option,
-        pension_age,
-        t.age,
-        t.term,
-        t.amount / scheme::STEP,
-        rate,
-    )
+    let own = ContributionPence::of_units(t.amount / scheme::STEP, rate);
+    let unit = PensionPence::of_pounds(scheme::STEP);
+    let mut years = [0u32; 21];
+    for n in 1..=t.term {
+        let yearly = monthly::monthly_rate(t.option, pension_age, t.age, n);
+        years[n as usize] = year_credit(own, unit, yearly);
+    }
+    years
 }
 
 // The credit of a whole year; past the row there is none. The row is lent: one by value would be copied.
 fn year_at(years: &[u32], n: u32) -> u32
     ensures { result ≡ get_or years.now n 0 }
 {
-    if (n as usize) < years.len() {
-        return years[n as usize];
-    }
-    0
+    years.get(n as usize).copied().unwrap_or(0)
 }
 
 // The value at a contract month. Both ends of every run are valued here.

@@ -11,7 +11,7 @@ unfolding after_mark
 returns-then-mark-eq1 c =
     record { is = search tests; within = (search rules, omega arith) }
 
-pub returns : goal.returns
+pub returns-else-mark-eq1 : goal.returns-else-mark-eq1
 unfolding after_mark
-returns c =
-    record { is = search (tests, ← c.credit_at-sum.ensures.is); within = (search rules, omega arith) }
+returns-else-mark-eq1 c =
+    record { is = search (tests, ← c.credit_at.ensures.is); within = (search rules, omega arith) }

@@ -10,7 +10,7 @@ use Rattle.money.specs.Money.{pension}
 use Rattle.credit.specs.declared.CreditSoFar.{CreditSoFar}
 use Rattle.years.specs.Years.{month_value}
 use Rattle.credit.specs.SoFar.{credit_at}
-use Rattle.credit.proofs.credit_at.Goals.{After-less}
+use Rattle.credit.proofs.credit_at.Goals.{After-less-grown}
 use Rattle.credit.proofs.credit_at.Goals as goal
 
 none_open : (years : List ℕ) (e : CreditSoFar) → e.from ≡ e.month → e.sum ≡ pension (credit_at nearest years e)
@@ -23,16 +23,16 @@ one_open : (years : List ℕ) (e : CreditSoFar) (end start gain r : PensionPence
 unfolding credit_at
 one_open years e end start gain r p q g h = h ∙ rw (g, p, q)
 
-gain_small : (c : After-less) → c.less.result.0 < 2 ^ 32
-gain_small c = omega (arith, ap (λ (p : PensionPence). p.0) c.less.ensures, c.month_value.ensures.fits)
+gain_small : (c : After-less-grown) → c.less-grown.result.0 < 2 ^ 32
+gain_small c = omega (arith, ap (λ (p : PensionPence). p.0) c.less-grown.ensures, c.month_value.ensures.fits)
 
 pub returns-then-e : goal.returns-then-e
 returns-then-e c =
     record { is = none_open _ _ c.if-e.true; small = omega arith }
 
 pub plus-requires : goal.plus-requires
-plus-requires c = omega (arith, gain_small (goal.at.plus-requires c).After-less)
+plus-requires c = omega (arith, gain_small (goal.at.plus-requires c).After-less-grown)
 
-pub returns : goal.returns
-returns c =
-    record { is = one_open _ _ _ _ _ _ c.month_value.ensures.is c.month_value-2.ensures.is c.less.ensures c.plus.ensures; small = omega (arith, gain_small (goal.at.returns c).After-less, ap (λ (p : PensionPence). p.0) c.plus.ensures) }
+pub returns-else-e : goal.returns-else-e
+returns-else-e c =
+    record { is = one_open _ _ _ _ _ _ c.month_value.ensures.is c.month_value-else-e.ensures.is c.less-grown.ensures c.plus.ensures; small = omega (arith, gain_small (goal.at.returns-else-e c).After-less-grown, ap (λ (p : PensionPence). p.0) c.plus.ensures) }
