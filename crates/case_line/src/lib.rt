@@ -7,6 +7,7 @@ ghost use Rattle.case_line.specs.Shape.{fields_of};
 ghost use Rattle.case_line.specs.Line.{fields_bytes, listed_as, wrong_shape, line_of};
 ghost use Rattle.case_line.specs.Steps.{row_or_wrong_shape, DigitsRead};
 
+use refusals::Refusal;
 use settlement::SixNumbers;
 use terms::Terms;
 
@@ -88,17 +89,7 @@ fn listed(election: u32, n: SixNumbers) -> [u8; LISTED_BYTES]
 fn wrong_shape() -> [u8; LISTED_BYTES]
     ensures { result ≡ wrong_shape }
 {
-    listed(
-        0,
-        SixNumbers {
-            refusal: 15,
-            place: 0,
-            contribution: 0,
-            status: 0,
-            credit: 0,
-            refund: 0,
-        },
-    )
+    listed(0, SixNumbers::from(Err(Refusal::WrongShape.into())))
 }
 
 // The listing's line for a line of the right shape: 29 to 285 bytes, eight fields that say numbers, and digits behind them.
@@ -113,7 +104,7 @@ fn settle_shape(line: &[u8]) -> Option<[u8; LISTED_BYTES]>
     let mut marks = [0u8; MOST_DIGITS];
     read_digits(digits, &mut marks)?;
     let answer = settlement::settle(case.terms, &marks[..digits.len()]);
-    Some(listed(case.election, settlement::six_numbers_of(answer)))
+    Some(listed(case.election, SixNumbers::from(answer)))
 }
 
 // The listing's line for a line of the file, whatever its bytes are.

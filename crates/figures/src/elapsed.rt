@@ -1,51 +1,62 @@
 // The marks of a contract's elapsed months, put together from runs of one mark.
-ghost use Rattle.std.specs.Prelude.{◌≡◌, [], take};
-ghost use Rattle.figures.specs.Elapsed.{elapsed_marks, with_run};
+ghost use Rattle.std.specs.Prelude.{◌≡◌, ◌≤◌, [], List, ℕ, take};
+ghost use Rattle.figures.specs.Elapsed.{with_run, row_marks};
 
-// The first `count` marks are the elapsed months'.
-#[derive(Clone, Copy)]
+use crate::asked::Run;
+use std::marker::Model;
+
+// More months than any contract has, so that too many can be asked.
+const ROOM: usize = 256;
+
+// Fixed memory: the first `count` marks are the elapsed months'.
+#[derive(Drop)]
 pub struct Elapsed {
-    pub marks: [u8; 256],
-    pub count: usize,
+    marks: [u8; ROOM],
+    count: usize,
 }
 
-pub fn none() -> Elapsed
-    ensures { elapsed_marks result ≡ [] }
-{
-    Elapsed {
-        marks: [0u8; 256],
-        count: 0,
-    }
+impl Model for Elapsed {
+    ghost Value = { List ℕ };
+
+    ghost view = { λ e. take e.count e.marks };
+
+    ghost invariant = { λ e. e.count ≤ 256 };
 }
 
-// One run more, as far as there is room. What is no byte is no mark, and adds nothing.
-pub fn then(before: Elapsed, n: u64, months: u64) -> Elapsed
-    ensures { elapsed_marks result ≡ with_run (elapsed_marks before) n months }
-{
-    if n > 255 {
-        return before;
-    }
-    let mark = n as u8;
-    let mut marks = before.marks;
-    let mut count = before.count;
-    let mut left = months;
-    while left > 0 {
-        left -= 1;
-        if count < 256 {
-            marks[count] = mark;
-            count += 1;
+impl Elapsed {
+    fn none() -> Self
+        ensures { result ≡ [] }
+    {
+        Elapsed {
+            marks: [0u8; ROOM],
+            count: 0,
         }
     }
-    Elapsed { marks, count }
-}
 
-// The first marks: all of them, where there are not so many.
-pub fn first(marks: &[u8; 256], count: usize) -> &[u8]
-    ensures { result.now ≡ take count marks.now }
-{
-    let all: &[u8] = marks;
-    if count > all.len() {
-        return all;
+    // One run more, as far as there is room.
+    fn push_run(&mut self, run: Run)
+        ensures { self.new ≡ with_run self.old run }
+    {
+        let (mark, months) = run;
+        let end = self.count + months.min(ROOM - self.count);
+        self.marks[self.count..end].fill(mark);
+        self.count = end;
     }
-    &all[..count]
+
+    // The marks of runs, one after another.
+    pub fn of_runs(runs: &[Run]) -> Self
+        ensures { result ≡ row_marks runs.now }
+    {
+        let mut elapsed = Elapsed::none();
+        for run in runs {
+            elapsed.push_run(*run);
+        }
+        elapsed
+    }
+
+    pub fn as_slice(&self) -> &[u8]
+        ensures { result.now ≡ self.now }
+    {
+        &self.marks[..self.count]
+    }
 }

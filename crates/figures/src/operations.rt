@@ -1,254 +1,201 @@
-// A line for each row of a table: the row, and what its operation gives for it. The rows' columns are named in cases.rt.
-ghost use Rattle.std.specs.Prelude.{◌≡◌, ◌<◌, ◌≤◌, get_or};
-ghost use Rattle.figures.specs.Elapsed.{elapsed_marks, row_marks};
-
+// A line for each row of a table: what is asked, and what the part gives for it.
+use crate::asked::{Asked, On, Run, Runs};
 use crate::elapsed::Elapsed;
-use crate::{elapsed, line};
 use money::PensionPence;
 use pay_off::PayOff;
-use quotes::{QuoteAnswer, Quoted, Register};
+use quotes::{QuoteAnswer, Register};
 use reduction::{Application, ReductionLimit};
+use schedule::Scheduled;
 use std::io;
 use terms::Terms;
 
-// The number in a column; 0 past the row.
-fn at(row: &[u64], column: usize) -> u64
-    ensures { result ≡ get_or row.now column 0 }
-{
-    if column < row.len() {
-        return row[column];
-    }
-    0
+fn print_cap_decision(rt: &impl Print, existing: u64) -> io::Result<()> {
+    let pounds = quotes::cap_decision(PensionPence(existing));
+    print!(rt; "cap {existing} is pounds {pounds}")
 }
 
-// The same, as wide as the operations take it: the greatest such number for a greater one.
-fn narrow_at(row: &[u64], column: usize) -> u32 {
-    let n = at(row, column);
-    if n > 4294967295 {
-        return 4294967295;
-    }
-    n as u32
+fn print_nearest(rt: &impl Print, figure: u64, divisor: u64) -> io::Result<()> {
+    let nearest = rounding::nearest(figure, divisor);
+    print!(rt; "nearest {figure} {divisor} is {nearest}")
 }
 
-// The first seven columns.
-fn row_terms(row: &[u64]) -> Terms {
-    Terms {
-        age: narrow_at(row, 0),
-        pnpa_years: narrow_at(row, 1),
-        pnpa_months: narrow_at(row, 2),
-        option: narrow_at(row, 3),
-        payer: narrow_at(row, 4),
-        term: narrow_at(row, 5),
-        amount: narrow_at(row, 6),
-    }
+fn print_blend(rt: &impl Print, twelfths: u32, lower: u32, upper: u32) -> io::Result<()> {
+    let blend = rounding::blend(twelfths, lower, upper);
+    print!(rt; "blend {twelfths} {lower} {upper} is {blend}")
 }
 
-// Columns 7 to 14: four runs of marks.
-fn row_marks(row: &[u64]) -> Elapsed
-    ensures { elapsed_marks result ≡ row_marks row.now }
-{
-    let first = elapsed::then(elapsed::none(), at(row, 7), at(row, 8));
-    let second = elapsed::then(first, at(row, 9), at(row, 10));
-    let third = elapsed::then(second, at(row, 11), at(row, 12));
-    elapsed::then(third, at(row, 13), at(row, 14))
+fn print_rate(
+    rt: &impl Print,
+    option: u32,
+    pension_age: u32,
+    age: u32,
+    term: u32,
+) -> io::Result<()> {
+    let rate = monthly::monthly_rate(option, pension_age, age, term);
+    print!(rt; "rate {option} {pension_age} {age} {term} is {rate}")
 }
 
-fn print_nearest(rt: &impl Print, row: &[u64]) -> io::Result<()> {
-    let n = rounding::nearest(at(row, 0), at(row, 1));
-    line::write_line(rt, b"nearest* is#", row, [n, 0, 0, 0, 0, 0])
-}
-
-fn print_blend(rt: &impl Print, row: &[u64]) -> io::Result<()> {
-    let n = rounding::blend(narrow_at(row, 0), narrow_at(row, 1), narrow_at(row, 2));
-    line::write_line(rt, b"blend* is#", row, [n, 0, 0, 0, 0, 0])
-}
-
-fn print_rate(rt: &impl Print, row: &[u64]) -> io::Result<()> {
-    let rate = monthly::monthly_rate(
-        narrow_at(row, 0),
-        narrow_at(row, 1),
-        narrow_at(row, 2),
-        narrow_at(row, 3),
-    );
-    line::write_line(rt, b"rate* is#", row, [rate as u64, 0, 0, 0, 0, 0])
-}
-
-fn print_cap_decision(rt: &impl Print, row: &[u64]) -> io::Result<()> {
-    let pounds = quotes::cap_decision(PensionPence(at(row, 0)));
-    line::write_line(rt, b"cap* is pounds#", row, [pounds as u64, 0, 0, 0, 0, 0])
-}
-
-// Refusal, contribution, number, register.
-fn quote_numbers(quoted: Quoted) -> [u64; 6] {
-    let answer = quoted.answer;
-    let register = quoted.register;
+// Refusal, contribution, number.
+fn quote_numbers(answer: QuoteAnswer) -> (u32, u64, u32) {
     match answer {
-        QuoteAnswer::Refused(refusal) => [refusal as u64, 0, 0, register.last as u64, 0, 0],
+        QuoteAnswer::Refused(refusal) => (refusal, 0, 0),
         QuoteAnswer::Made {
             contribution,
             number,
-        } => [0, contribution.0, number as u64, register.last as u64, 0, 0],
+        } => (0, contribution.0, number),
     }
 }
 
-fn print_quote(rt: &impl Print, row: &[u64]) -> io::Result<()> {
-    let existing = PensionPence(at(row, 7));
-    let last = narrow_at(row, 8);
-    let answer = quote_numbers(quotes::quote(row_terms(row), existing, Register { last }));
-    line::write_line(
-        rt,
-        b"quote* is refusal# contribution# number# register#",
-        row,
-        answer,
+fn print_quote(rt: &impl Print, on: On, existing: u64, last: u32) -> io::Result<()> {
+    let quoted = quotes::quote(Terms::from(on), PensionPence(existing), Register { last });
+    let (refusal, contribution, number) = quote_numbers(quoted.answer);
+    let register = quoted.register.last;
+    print!(rt; "quote {on} {existing} {last}")?;
+    print!(rt;
+        " is refusal {refusal} contribution {contribution} number {number} register {register}"
     )
 }
 
-fn print_settle(rt: &impl Print, row: &[u64]) -> io::Result<()> {
-    let months = row_marks(row);
-    let all = months.marks;
-    let answer = settlement::settle(row_terms(row), elapsed::first(&all, months.count));
+fn print_settle(rt: &impl Print, on: On, runs: &[Run]) -> io::Result<()> {
+    let elapsed = Elapsed::of_runs(runs);
+    let answer = settlement::settle(Terms::from(on), elapsed.as_slice());
     let n = settlement::six_numbers_of(answer);
-    line::write_line(
-        rt,
-        b"settle* is refusal# place# contribution# status# credit# refund#",
-        row,
-        [
-            n.refusal,
-            n.place,
-            n.contribution,
-            n.status,
-            n.credit,
-            n.refund,
-        ],
+    let asked = Runs(runs);
+    print!(rt; "settle {on}{asked}")?;
+    print!(rt;
+        " is refusal {} place {} contribution {}",
+        n.refusal, n.place, n.contribution
+    )?;
+    print!(rt;
+        " status {} credit {} refund {}",
+        n.status, n.credit, n.refund
     )
 }
 
-// Schedule with the list that is lent.
-fn schedule_into(rt: &impl Print, row: &[u64], months: &[u8], list: &mut [u32]) -> io::Result<()> {
-    let answer = schedule::schedule(row_terms(row), months, list);
-    line::write_line(
-        rt,
-        b"schedule* is refusal# place# entries",
-        row,
-        [answer.refusal as u64, answer.place as u64, 0, 0, 0, 0],
-    )?;
-    line::write_entries(rt, list)
+// Refusal, place.
+fn schedule_numbers(answer: Scheduled) -> (u32, usize) {
+    (answer.refusal, answer.place)
+}
+
+fn print_entries(rt: &impl Print, list: &[u32]) -> io::Result<()> {
+    for entry in list {
+        print!(rt; " {entry}")?;
+    }
+    Ok(())
 }
 
 // Each entry of the lent list holds 7 before the call, and the whole list is printed after it. A row that asks for more than 20
 // entries prints nothing.
-fn print_schedule(rt: &impl Print, row: &[u64]) -> io::Result<()> {
-    let months = row_marks(row);
-    let all = months.marks;
-    let entries = at(row, 15) as usize;
+fn print_schedule(rt: &impl Print, on: On, runs: &[Run], entries: usize) -> io::Result<()> {
     let mut list = [7u32; 20];
-    if entries > 20 {
+    let Some(lent) = list.get_mut(..entries) else {
         return Ok(());
-    }
-    schedule_into(
-        rt,
-        row,
-        elapsed::first(&all, months.count),
-        &mut list[..entries],
-    )
+    };
+    let elapsed = Elapsed::of_runs(runs);
+    let answer = schedule::schedule(Terms::from(on), elapsed.as_slice(), lent);
+    let (refusal, place) = schedule_numbers(answer);
+    let asked = Runs(runs);
+    print!(rt; "schedule {on}{asked} {entries} is refusal {refusal} place {place} entries")?;
+    print_entries(rt, lent)
 }
 
 // Refusal, place, remaining and increased pension, cost.
-fn pay_off_numbers(answer: PayOff) -> [u64; 6] {
+fn pay_off_numbers(answer: PayOff) -> (u32, usize, u64, u64, u64) {
     match answer {
-        PayOff::Refused { refusal, place } => [refusal as u64, place as u64, 0, 0, 0, 0],
+        PayOff::Refused { refusal, place } => (refusal, place, 0, 0, 0),
         PayOff::Priced {
             remaining,
             increased,
             cost,
-        } => [0, 0, remaining.0, increased.0, cost.0, 0],
+        } => (0, 0, remaining.0, increased.0, cost.0),
     }
 }
 
-fn print_pay_off(rt: &impl Print, row: &[u64]) -> io::Result<()> {
-    let months = row_marks(row);
-    let all = months.marks;
-    let elapsed = elapsed::first(&all, months.count);
-    let answer = pay_off::pay_off(
-        row_terms(row),
-        elapsed,
-        narrow_at(row, 15),
-        narrow_at(row, 16),
-    );
-    line::write_line(
-        rt,
-        b"pay-off* is refusal# place# remaining# increased# cost#",
-        row,
-        pay_off_numbers(answer),
+fn print_pay_off(
+    rt: &impl Print,
+    on: On,
+    runs: &[Run],
+    age_now: u32,
+    increase: u32,
+) -> io::Result<()> {
+    let elapsed = Elapsed::of_runs(runs);
+    let answer = pay_off::pay_off(Terms::from(on), elapsed.as_slice(), age_now, increase);
+    let (refusal, place, remaining, increased, cost) = pay_off_numbers(answer);
+    let asked = Runs(runs);
+    print!(rt; "pay-off {on}{asked} {age_now} {increase}")?;
+    print!(rt;
+        " is refusal {refusal} place {place} remaining {remaining} increased {increased} cost {cost}"
     )
 }
 
 // Refusal, age, the B of three candidates.
-fn reduction_numbers(answer: ReductionLimit) -> [u64; 6] {
+fn reduction_numbers(answer: ReductionLimit) -> (u32, u32, [u64; 3]) {
     match answer {
-        ReductionLimit::Refused => [18, 0, 0, 0, 0, 0],
-        ReductionLimit::NoScope(p) => [0, 0, p.first.0, p.second.0, p.third.0, 0],
-        ReductionLimit::Found { age, potentials: p } => [
-            0, age as u64, p.first.0, p.second.0, p.third.0, 0,
-        ],
+        ReductionLimit::Refused => (18, 0, [0, 0, 0]),
+        ReductionLimit::NoScope(p) => (0, 0, [p.first.0, p.second.0, p.third.0]),
+        ReductionLimit::Found { age, potentials: p } => {
+            (0, age, [p.first.0, p.second.0, p.third.0])
+        }
     }
 }
 
-fn print_reduction_limit(rt: &impl Print, row: &[u64]) -> io::Result<()> {
-    let answer = reduction::reduction_limit(Application {
-        npa: narrow_at(row, 0),
-        age: narrow_at(row, 1),
-        pay: narrow_at(row, 2),
-        erf_first: narrow_at(row, 3),
-        erf_second: narrow_at(row, 4),
-        erf_third: narrow_at(row, 5),
-        existing: PensionPence(at(row, 6)),
-        limit: PensionPence(at(row, 7)),
-    });
-    line::write_line(
-        rt,
-        b"reduction-limit* is refusal# age# first# second# third#",
-        row,
-        reduction_numbers(answer),
-    )
+fn print_reduction_limit(rt: &impl Print, a: Application) -> io::Result<()> {
+    let (refusal, age, [first, second, third]) = reduction_numbers(reduction::reduction_limit(a));
+    print!(rt; "reduction-limit {} {} {}", a.npa, a.age, a.pay)?;
+    print!(rt;
+        " {} {} {} {} {}",
+        a.erf_first, a.erf_second, a.erf_third, a.existing.0, a.limit.0
+    )?;
+    print!(rt; " is refusal {refusal} age {age} first {first} second {second} third {third}")
 }
 
-// By the number of its columns, as cases.rt names them; any other row prints nothing.
-fn print_row(rt: &impl Print, row: &[u64]) -> io::Result<()> {
-    match row.len() {
-        1 => print_cap_decision(rt, row),
-        2 => print_nearest(rt, row),
-        3 => print_blend(rt, row),
-        4 => print_rate(rt, row),
-        8 => print_reduction_limit(rt, row),
-        9 => print_quote(rt, row),
-        15 => print_settle(rt, row),
-        16 => print_schedule(rt, row),
-        17 => print_pay_off(rt, row),
-        _ => Ok(()),
+fn application(
+    npa: u32,
+    age: u32,
+    pay: u32,
+    factors: [u32; 3],
+    existing: u64,
+    limit: u64,
+) -> Application {
+    let [erf_first, erf_second, erf_third] = factors;
+    Application {
+        npa,
+        age,
+        pay,
+        erf_first,
+        erf_second,
+        erf_third,
+        existing: PensionPence(existing),
+        limit: PensionPence(limit),
     }
 }
 
-// Where a row ends: so many columns after its operation, and no further than the table.
-fn row_end(from: usize, columns: u64, end: usize) -> usize
-    requires { from < end }
-    ensures { (from < result) × (result ≤ end) }
-{
-    if columns as usize >= end - from {
-        return end;
+fn print_row(rt: &impl Print, asked: Asked) -> io::Result<()> {
+    match asked {
+        Asked::CapDecision(existing) => print_cap_decision(rt, existing),
+        Asked::Nearest(figure, divisor) => print_nearest(rt, figure, divisor),
+        Asked::Blend(twelfths, lower, upper) => print_blend(rt, twelfths, lower, upper),
+        Asked::Rate(option, pension_age, age, term) => {
+            print_rate(rt, option, pension_age, age, term)
+        }
+        Asked::ReductionLimit(npa, age, pay, factors, existing, limit) => {
+            print_reduction_limit(rt, application(npa, age, pay, factors, existing, limit))
+        }
+        Asked::Quote(on, existing, last) => print_quote(rt, on, existing, last),
+        Asked::Settle(on, runs) => print_settle(rt, on, runs),
+        Asked::Schedule(on, runs, entries) => print_schedule(rt, on, runs, entries),
+        Asked::PayOff(on, runs, age_now, increase) => {
+            print_pay_off(rt, on, runs, age_now, increase)
+        }
     }
-    from + 1 + columns as usize
 }
 
 // A line for each row, after the document's name.
-pub fn print_table(rt: &impl Print, document: &[u8], table: &[u64]) -> io::Result<()> {
-    let mut from = 0;
-    while from < table.len() {
-        let end = row_end(from, table[from], table.len());
-        line::write_text(rt, document)?;
-        print_row(rt, &table[from + 1..end])?;
-        line::write_text(rt, b"\n")?;
-        from = end;
+pub fn print_table(rt: &impl Print, document: &str, table: &[Asked]) -> io::Result<()> {
+    for asked in table {
+        print!(rt; "{document}")?;
+        print_row(rt, *asked)?;
+        println!(rt)?;
     }
     Ok(())
 }

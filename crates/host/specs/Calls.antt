@@ -24,9 +24,7 @@ application_of npa age pay erf1 erf2 erf3 existing limit =
       npa = npa;
       age = age;
       pay = pay;
-      erf_first = erf1;
-      erf_second = erf2;
-      erf_third = erf3;
+      erfs = erf1 ∷ erf2 ∷ erf3 ∷ [];
       existing = pension existing;
       limit = pension limit;
     }

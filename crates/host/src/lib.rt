@@ -10,8 +10,10 @@ ghost use Rattle.host.specs.Calls.{terms_of, application_of, host_quote_of, host
 
 use money::PensionPence;
 use pay_off::PayOff;
-use quotes::{QuoteAnswer, Quoted, Register};
+use quotes::{Quoted, Register};
 use reduction::{Application, ReductionLimit};
+use refusals::{Refusal, Refused};
+use settlement::SixNumbers;
 use terms::Terms;
 
 // How many bytes the results of Quote take.
@@ -26,9 +28,6 @@ const PAY_OFF_BYTES: usize = 40;
 // How many those of the reduction limit take.
 const REDUCTION_LIMIT_BYTES: usize = 40;
 
-// The refusal of an application that is out of range.
-const REFUSED_APPLICATION: u64 = 18;
-
 // The value of a call whose buffer has fewer bytes.
 const SHORT_BUFFER: u32 = 14;
 
@@ -36,44 +35,33 @@ const SHORT_BUFFER: u32 = 14;
 fn quote_numbers(q: Quoted) -> [u64; 3]
     ensures { result ≡ (numbers_of_quote q).refusal ∷ (numbers_of_quote q).contribution ∷ (numbers_of_quote q).next ∷ [] }
 {
-    let answer = q.answer;
-    match answer {
-        QuoteAnswer::Refused(refusal) => [refusal as u64, 0, 0],
-        QuoteAnswer::Made {
-            contribution,
-            number,
-        } => [0, contribution.0, number as u64],
+    match q.answer {
+        Err(refusal) => [refusal.number() as u64, 0, 0],
+        Ok(made) => [0, made.contribution.0, made.number as u64],
     }
 }
 
 // What a pay-off answers, in the order in which it is stored.
-fn pay_off_numbers(answer: PayOff) -> [u64; 5]
+fn pay_off_numbers(answer: Result<PayOff, Refused>) -> [u64; 5]
     ensures { result ≡ (numbers_of_pay_off answer).refusal ∷ (numbers_of_pay_off answer).place ∷ (numbers_of_pay_off answer).remaining ∷ (numbers_of_pay_off answer).increased ∷ (numbers_of_pay_off answer).cost ∷ [] }
 {
     match answer {
-        PayOff::Refused { refusal, place } => [refusal as u64, place as u64, 0, 0, 0],
-        PayOff::Priced {
-            remaining,
-            increased,
-            cost,
-        } => [0, 0, remaining.0, increased.0, cost.0],
+        Err(e) => [e.refusal.number() as u64, e.place as u64, 0, 0, 0],
+        Ok(p) => [0, 0, p.remaining.0, p.increased.0, p.cost.0],
     }
 }
 
-// What a reduction limit answers, in the order in which it is stored.
-fn reduction_numbers(answer: ReductionLimit) -> [u64; 5]
+// What a reduction limit answers, in the order in which it is stored; the age is 0 without scope.
+fn reduction_numbers(answer: Result<ReductionLimit, Refusal>) -> [u64; 5]
     ensures { result ≡ (numbers_of_reduction answer).refusal ∷ (numbers_of_reduction answer).age ∷ (numbers_of_reduction answer).first ∷ (numbers_of_reduction answer).second ∷ (numbers_of_reduction answer).third ∷ [] }
 {
     match answer {
-        ReductionLimit::Refused => [REFUSED_APPLICATION, 0, 0, 0, 0],
-        ReductionLimit::NoScope(p) => [0, 0, p.first.0, p.second.0, p.third.0],
-        ReductionLimit::Found { age, potentials } => [
-            0,
-            age as u64,
-            potentials.first.0,
-            potentials.second.0,
-            potentials.third.0,
-        ],
+        Err(refusal) => [refusal.number() as u64, 0, 0, 0, 0],
+        Ok(limit) => {
+            let [first, second, third] = limit.potentials;
+            let age = limit.age.unwrap_or(0);
+            [0, age as u64, first.0, second.0, third.0]
+        }
     }
 }
 
@@ -143,7 +131,7 @@ pub extern "C" fn ap_settle(
         term,
         amount,
     };
-    let n = settlement::six_numbers_of(settlement::settle(t, marks));
+    let n = SixNumbers::from(settlement::settle(t, marks));
     let numbers = [
         n.refusal,
         n.place,
@@ -216,9 +204,7 @@ pub extern "C" fn ap_reduction_limit(
         npa,
         age,
         pay,
-        erf_first,
-        erf_second,
-        erf_third,
+        erfs: [erf_first, erf_second, erf_third],
         existing: PensionPence(existing_pence),
         limit: PensionPence(limit_pence),
     };

@@ -1,6 +1,7 @@
 -- The B that an answer shows, by what the search found.
 -- Assumes nothing.
 use mathlib.Core.Bool.{true, false}
+use mathlib.Core.List.{List, [], ◌∷◌}
 use mathlib.Core.Path.{◌≡◌}
 use Prim.Native.Nat.{ℕ, ◌+◌, ◌<◌}
 use native.Mathlib.Omega.{arith}
@@ -8,9 +9,9 @@ use lib.Dec.{ltb, eqb}
 use borrow.Author.Tests.{ltb-true, ltb-false, le-leb, lt-leb, ne_eqb}
 use Rattle.common.specs.Choice.{pick}
 use Rattle.common.proofs.Tests.{by_test, or_true, and_false}
+use Rattle.money.specs.declared.PensionPence.{PensionPence}
 use Rattle.money.specs.Money.{pension}
 use Rattle.reduction.specs.declared.Application.{Application}
-use Rattle.reduction.specs.declared.Potentials.{Potentials}
 use Rattle.reduction.specs.Range.{InRange}
 use Rattle.reduction.specs.Search.{candidate_of, potential_at, below_npa}
 use Rattle.reduction.specs.Answer.{potential_shown, answered_reduction, reduction_by, reduction_limit_of}
@@ -22,8 +23,8 @@ unfoldable pub tried_of : Application → (m j : ℕ) → ℕ
 tried_of a m j = pick (ltb j m) (potential_at a j) 0
 
 -- the B of the first m candidates
-abbrev pub tried : Application → (m : ℕ) → Potentials
-tried a m = record { first = pension (tried_of a m 0); second = pension (tried_of a m 1); third = pension (tried_of a m 2) }
+abbrev pub tried : Application → (m : ℕ) → List PensionPence
+tried a m = pension (tried_of a m 0) ∷ pension (tried_of a m 1) ∷ pension (tried_of a m 2) ∷ []
 
 module _ (a : Application) where
   -- an answer that shows the first m

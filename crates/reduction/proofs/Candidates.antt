@@ -2,7 +2,7 @@
 -- Assumes nothing.
 use mathlib.Core.Bool.{true, false}
 use mathlib.Core.Path.{◌≡◌}
-use Prim.Native.Nat.{ℕ, zero, suc, ◌+◌, ◌-◌, ◌≤◌, ◌<◌, max}
+use Prim.Native.Nat.{ℕ, ◌+◌, ◌-◌, ◌≤◌, ◌<◌, max}
 use native.Mathlib.Omega.{arith}
 use borrow.Author.Tests.{lt-ltb, le-ltb, ltb-true, ltb-false}
 use Rattle.reduction.specs.declared.Application.{Application}
@@ -11,10 +11,6 @@ use Rattle.reduction.specs.Range.{InRange}
 use Rattle.reduction.specs.Search.{candidate_of, factor_of, years_to, potential_at, takes_at, below_npa, search_by}
 use Rattle.reduction.specs.Bounds.{most_potential}
 use Rattle.reduction.proofs.Distance.{potential_most, potential_close}
-
--- where k is neither 0 nor 1
-pub from_two : {k : ℕ} → (k ≡ 0 → ⊥) → (k ≡ 1 → ⊥) → k ≡ suc (suc (k - 2))
-from_two some more = omega (arith, some, more)
 
 -- the age that the search gives by B < C, and what is left of that search from candidate k on
 abbrev pub search_from : Application → (k n : ℕ) → ℕ
@@ -77,9 +73,7 @@ module _ (a : Application) where
 
     pub factor_most : (k : ℕ) → factor_of a k ≤ 1000
     unfolding factor_of
-    factor_most zero = in_it.first_high
-    factor_most (suc zero) = in_it.second_high
-    factor_most (suc (suc k)) = in_it.third_high
+    factor_most k = in_it.factors_high k
 
     -- B of one of the three
     module _ (k : ℕ) (among : k < 3) where

@@ -1,20 +1,21 @@
 -- What holds of every reduction limit.
 -- Assumes nothing.
-use mathlib.Core.Bool.{true, false}
+use mathlib.Core.Bool.{Bool, true, false}
 use mathlib.Core.Logic.{inl, inr, ⊎_elim}
-use mathlib.Core.Path.{◌≡◌, refl, sym, ◌∙◌}
+use mathlib.Core.Path.{◌≡◌, refl, sym, ap, ◌∙◌}
 use Prim.Native.Nat.{ℕ, zero, suc, ◌<◌}
 use native.Mathlib.Omega.{arith}
 use lib.Dec.{leb, eqb}
 use borrow.Author.Tests.{eqb-true, leb-true, eq-eqb, le-leb, le-ltb}
+use Rattle.common.specs.Choice.{pick}
 use Rattle.common.proofs.Tests.{by_test, or_true}
 use Rattle.reduction.specs.declared.Application.{Application}
 use Rattle.reduction.specs.Range.{out_of_range, InRange}
 use Rattle.reduction.specs.Search.{candidate_of, potential_at, takes_at, below_npa, search_by}
-use Rattle.reduction.specs.Answer.{ReductionNumbers, potential_shown, refused_reduction, reduction_by, reduction_limit_of}
+use Rattle.reduction.specs.Answer.{ReductionNumbers, potential_shown, refused_with, refused_reduction, reduction_by, reduction_limit_of}
 use Rattle.reduction.specs.Clauses.{given_for, Shown, ReductionRefusals, ReductionAnswered}
 use Rattle.reduction.proofs.Near.{near_wider}
-use Rattle.reduction.proofs.Range.{in_range, not_out}
+use Rattle.reduction.proofs.Range.{in_range, not_out, out_by}
 use Rattle.reduction.proofs.Headroom.{takes_none}
 use Rattle.reduction.proofs.Candidates.{earliest_age, below_npa_lem, is_below, first_below, close_at}
 use Rattle.reduction.proofs.Earliest.{given_earliest, none_given, given_none}
@@ -27,6 +28,12 @@ module _ (a : Application) where
   pub reduction_refused : out_of_range a ≡ true → answer ≡ refused_reduction
   unfolding reduction_limit_of reduction_by
   reduction_refused e = rw e
+
+  -- with the number that the code gives
+  pub refused_by : {n : ℕ} → n ≡ pick (out_of_range a) 18 0 → 0 < n → refused_with n ≡ answer
+  refused_by is some =
+      let e = out_by a is some in
+      ap refused_with (is ∙ ap (λ (out : Bool). pick out 18 0) e) ∙ sym (reduction_refused e)
 
   -- an answer that is no refusal
   fine : answer.refusal ≡ 0 → out_of_range a ≡ false

@@ -4,7 +4,6 @@ pub mod Distance
 pub mod Range
 pub mod Headroom
 pub mod CutOff
-pub mod Compared
 pub mod Candidates
 pub mod Earliest
 pub mod Answers

@@ -1,13 +1,18 @@
 -- 18 refuses just what is out of range.
 -- Assumes nothing.
-use mathlib.Core.Bool.{Bool, true, false, ◌||◌}
+use mathlib.Core.Bool.{true, false}
+use mathlib.Core.List.{List, [], ◌∷◌}
 use mathlib.Core.Path.{◌≡◌, refl}
-use Prim.Native.Nat.{ℕ, ◌≤◌}
+use Prim.Native.Nat.{ℕ, zero, suc, ◌≤◌, ◌<◌, zero-le}
+use native.Mathlib.Omega.{arith}
+use lib.Dec.{ltb}
+use lib.ListN.{get_or}
 use borrow.Author.Tests.{ltb-false, le-ltb}
-use Rattle.common.proofs.Tests.{or_false}
+use Rattle.std.specs.List.{list_any}
+use Rattle.common.specs.Choice.{pick}
+use Rattle.common.proofs.Tests.{by_test, or_false}
 use Rattle.reduction.specs.declared.Application.{Application}
 use Rattle.reduction.specs.Range.{most_pence, outside, out_of_range, InRange}
-use Rattle.reduction.specs.Halves.{wrong_member, wrong_amounts}
 
 within : (least most x : ℕ) → outside least most x ≡ false → (least ≤ x) × (x ≤ most)
 unfolding outside
@@ -19,6 +24,16 @@ inside : (least most x : ℕ) → least ≤ x → x ≤ most → outside least m
 unfolding outside
 inside least most x l m = rw (le-ltb x least l, le-ltb most x m)
 
+-- none of a list is above a number, read past its end as 0
+none_above : (most : ℕ) (xs : List ℕ) → list_any (ltb most) xs ≡ false → (k : ℕ) → get_or xs k 0 ≤ most
+none_above most [] e k = zero-le
+none_above most (x ∷ xs) e zero = ltb-false most x (or_false _ _ e).0
+none_above most (x ∷ xs) e (suc k) = none_above most xs (or_false _ _ e).1 k
+
+all_within : (most : ℕ) (xs : List ℕ) → ((k : ℕ) → get_or xs k 0 ≤ most) → list_any (ltb most) xs ≡ false
+all_within most [] h = refl
+all_within most (x ∷ xs) h = rw (le-ltb most x (h zero)) (all_within most xs (λ k. h (suc k)))
+
 pub in_range : (a : Application) → out_of_range a ≡ false → InRange a
 unfolding out_of_range
 in_range a e =
@@ -27,8 +42,6 @@ in_range a e =
     let three = or_false _ _ two.1 in
     let four = or_false _ _ three.1 in
     let five = or_false _ _ four.1 in
-    let six = or_false _ _ five.1 in
-    let seven = or_false _ _ six.1 in
     let npa = within 66 70 a.npa one.0 in
     let age = within 24 64 a.age two.0 in
     let pay = within 1 200000 a.pay three.0 in
@@ -39,11 +52,9 @@ in_range a e =
       age_high = age.1;
       pay_low = pay.0;
       pay_high = pay.1;
-      first_high = ltb-false 1000 a.erf_first four.0;
-      second_high = ltb-false 1000 a.erf_second five.0;
-      third_high = ltb-false 1000 a.erf_third six.0;
-      existing_high = ltb-false most_pence a.existing.0 seven.0;
-      limit_high = ltb-false most_pence a.limit.0 seven.1;
+      factors_high = none_above 1000 a.erfs four.0;
+      existing_high = ltb-false most_pence a.existing.0 five.0;
+      limit_high = ltb-false most_pence a.limit.0 five.1;
     }
 
 pub not_out : (a : Application) → InRange a → out_of_range a ≡ false
@@ -53,19 +64,15 @@ not_out a in_it =
       inside 66 70 a.npa in_it.npa_low in_it.npa_high,
       inside 24 64 a.age in_it.age_low in_it.age_high,
       inside 1 200000 a.pay in_it.pay_low in_it.pay_high,
-      le-ltb 1000 a.erf_first in_it.first_high,
-      le-ltb 1000 a.erf_second in_it.second_high,
-      le-ltb 1000 a.erf_third in_it.third_high,
+      all_within 1000 a.erfs in_it.factors_high,
       le-ltb most_pence a.existing.0 in_it.existing_high,
       le-ltb most_pence a.limit.0 in_it.limit_high,
     )
 
--- the code's two halves are the whole
-or_regroup : (x y z w : Bool) → ((x || (y || z)) || w) ≡ (x || (y || (z || w)))
-or_regroup true y z w = refl
-or_regroup false true z w = refl
-or_regroup false false z w = refl
+-- what the number that the code refuses with says
+module _ (a : Application) {n : ℕ} (is : n ≡ pick (out_of_range a) 18 0) where
+  pub out_by : 0 < n → out_of_range a ≡ true
+  out_by some = by_test (out_of_range a) (λ e. e) (λ e. absurd (omega (arith, rw e at is)))
 
-pub both_halves : (a : Application) → (wrong_member a || wrong_amounts a) ≡ out_of_range a
-unfolding out_of_range wrong_member wrong_amounts
-both_halves a = or_regroup (outside 66 70 a.npa) (outside 24 64 a.age) (outside 1 200000 a.pay) (wrong_amounts a)
+  pub in_by : n ≡ 0 → InRange a
+  in_by none = in_range a (by_test (out_of_range a) (λ e. absurd (omega (arith, rw e at is))) (λ e. e))

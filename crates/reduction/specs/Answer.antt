@@ -1,11 +1,13 @@
 -- Request 4 of document 02: what the reduction limit gives.
 -- Assumes nothing.
-use Rattle.std.specs.Prelude.{Bool, true, false, ◌&&◌, ◌||◌, ℕ, leb, eqb}
+use Rattle.std.specs.Prelude.{Bool, false, ◌&&◌, ◌||◌, ℕ, leb, eqb, List, is_some, unwrap_or, Result, Ok, Err, slice_index_or}
 use Rattle.common.specs.Choice.{pick}
+use Rattle.refusals.specs.declared.Refusal.{Refusal}
+use Rattle.refusals.specs.Numbers.{refusal_number}
+use Rattle.money.specs.declared.PensionPence.{PensionPence}
+use Rattle.money.specs.Money.{pension}
 use Rattle.reduction.specs.declared.Application.{Application}
-use Rattle.reduction.specs.declared.Potentials.{Potentials}
 use Rattle.reduction.specs.declared.ReductionLimit.{ReductionLimit}
-use Rattle.reduction.specs.declared.ReductionLimit.TheVariants.{Refused, NoScope, Found}
 use Rattle.reduction.specs.Range.{out_of_range}
 use Rattle.reduction.specs.Search.{candidate_of, potential_at, takes_at, below_npa, search_by}
 
@@ -26,9 +28,13 @@ abbrev pub found_reduction : Application → (age : ℕ) → ReductionNumbers
 found_reduction a age =
     record { refusal = 0; age = age; first = potential_shown a age 0; second = potential_shown a age 1; third = potential_shown a age 2 }
 
--- 18, all other fields 0
+-- a refusal, all other fields 0
+abbrev pub refused_with : (refusal : ℕ) → ReductionNumbers
+refused_with refusal = record { refusal = refusal; age = 0; first = 0; second = 0; third = 0 }
+
+-- 18
 abbrev pub refused_reduction : ReductionNumbers
-refused_reduction = record { refusal = 18; age = 0; first = 0; second = 0; third = 0 }
+refused_reduction = refused_with 18
 
 -- the reduction limit by a test of the three candidates; 18 comes before anything else
 unfoldable pub reduction_by : (taken : ℕ → Bool) → Application → ReductionNumbers
@@ -38,24 +44,21 @@ reduction_by taken a = pick (out_of_range a) refused_reduction (found_reduction 
 unfoldable pub reduction_limit_of : Application → ReductionNumbers
 reduction_limit_of a = reduction_by (takes_at a) a
 
+-- B of candidate k among those that an answer holds
+abbrev pub potential_held : List PensionPence → (k : ℕ) → ℕ
+potential_held p k = (slice_index_or p k (pension 0)).0
+
 -- an age, or 0, with three B
-abbrev pub answered_reduction : (age : ℕ) → Potentials → ReductionNumbers
-answered_reduction age p = record { refusal = 0; age = age; first = p.first.0; second = p.second.0; third = p.third.0 }
+abbrev pub answered_reduction : (age : ℕ) → List PensionPence → ReductionNumbers
+answered_reduction age p =
+    record { refusal = 0; age = age; first = potential_held p 0; second = potential_held p 1; third = potential_held p 2 }
 
--- document 02's numbers for each case of an answer
-abbrev pub numbers_of_reduction : ReductionLimit → ReductionNumbers
-numbers_of_reduction Refused = refused_reduction
-numbers_of_reduction (NoScope p) = answered_reduction 0 p
-numbers_of_reduction (Found age p) = answered_reduction age p
+-- document 02's numbers for each case of an answer: an age of 0 says that there is none
+abbrev pub numbers_of_reduction : Result ReductionLimit Refusal → ReductionNumbers
+numbers_of_reduction (Ok r) = answered_reduction (unwrap_or r.age 0) r.potentials
+numbers_of_reduction (Err e) = refused_with (refusal_number e)
 
--- whether an answer is a refusal
-abbrev pub reduction_is_refused : ReductionLimit → Bool
-reduction_is_refused Refused = true
-reduction_is_refused (NoScope p) = false
-reduction_is_refused (Found age p) = false
-
--- whether it has an age
-abbrev pub has_scope : ReductionLimit → Bool
-has_scope Refused = false
-has_scope (NoScope p) = false
-has_scope (Found age p) = true
+-- whether an answer has an age
+abbrev pub has_scope : Result ReductionLimit Refusal → Bool
+has_scope (Ok r) = is_some r.age
+has_scope (Err e) = false

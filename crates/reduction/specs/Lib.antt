@@ -2,10 +2,8 @@ pub mod Near
 pub mod Power
 pub mod Potential
 pub mod Range
-pub mod Halves
 pub mod Search
 pub mod Answer
 pub mod Clauses
 pub mod CutOff
 pub mod Bounds
-pub mod Noted

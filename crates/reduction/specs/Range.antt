@@ -1,6 +1,7 @@
 -- Request 4 of document 02: what an application may hold, and what is refused with 18.
 -- Assumes nothing.
-use Rattle.std.specs.Prelude.{Bool, ◌||◌, ℕ, ◌≤◌, ltb}
+use Rattle.std.specs.Prelude.{Bool, ◌||◌, ℕ, ◌≤◌, ltb, slice_index}
+use Rattle.std.specs.List.{list_any}
 use Rattle.scheme.specs.Scheme.{pounds_in_pence}
 use Rattle.reduction.specs.declared.Application.{Application}
 
@@ -19,11 +20,9 @@ out_of_range a =
     outside 66 70 a.npa
     || (outside 24 64 a.age
     || (outside 1 200000 a.pay
-    || (ltb 1000 a.erf_first
-    || (ltb 1000 a.erf_second
-    || (ltb 1000 a.erf_third
+    || (list_any (ltb 1000) a.erfs
     || (ltb most_pence a.existing.0
-    || ltb most_pence a.limit.0))))))
+    || ltb most_pence a.limit.0))))
 
 -- an application that 18 does not refuse
 pub record InRange (a : Application) : Type 0 where
@@ -33,8 +32,6 @@ pub record InRange (a : Application) : Type 0 where
   pub age_high : a.age ≤ 64
   pub pay_low : 1 ≤ a.pay
   pub pay_high : a.pay ≤ 200000
-  pub first_high : a.erf_first ≤ 1000
-  pub second_high : a.erf_second ≤ 1000
-  pub third_high : a.erf_third ≤ 1000
+  pub factors_high : (k : ℕ) → slice_index a.erfs k ≤ 1000
   pub existing_high : a.existing.0 ≤ most_pence
   pub limit_high : a.limit.0 ≤ most_pence

@@ -1,6 +1,6 @@
 -- Request 4 of document 02: up to three candidate ages, one after the other, and which of them is taken.
 -- Assumes nothing.
-use Rattle.std.specs.Prelude.{Bool, ◌||◌, ℕ, zero, suc, ◌+◌, ◌-◌, max, ltb, eqb, ℤ, pos}
+use Rattle.std.specs.Prelude.{Bool, ◌||◌, ℕ, zero, suc, ◌+◌, ◌-◌, max, ltb, eqb, ℤ, pos, slice_index}
 use Rattle.std.proofs.Math.IntN.{sub_ℕ}
 use Rattle.std.specs.Int.Signed.{lt_z}
 use Rattle.common.specs.Choice.{pick}
@@ -13,9 +13,7 @@ candidate_of a k = max 65 (a.npa - 3) + k
 
 -- the early-retirement factor of each
 unfoldable pub factor_of : Application → ℕ → ℕ
-factor_of a zero = a.erf_first
-factor_of a (suc zero) = a.erf_second
-factor_of a (suc (suc k)) = a.erf_third
+factor_of a k = slice_index a.erfs k
 
 -- the whole years to each
 unfoldable pub years_to : Application → ℕ → ℕ

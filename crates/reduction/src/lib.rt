@@ -2,18 +2,29 @@
 #![tactic(auto)]
 
 ghost use Rattle.std.specs.Prelude.{◌≡◌, ◌*◌, ◌-◌, ◌≤◌, ◌<◌, ◌^◌, max, ltb};
+ghost use Rattle.std.specs.List.{list_any};
+ghost use Rattle.common.specs.Choice.{pick};
+ghost use Rattle.refusals.specs.Numbers.{refusal_in, is_refused};
 ghost use Rattle.rounding.specs.Nearest.{half_up};
 ghost use Rattle.money.specs.Money.{pension};
 ghost use Rattle.reduction.specs.Power.{power_of};
 ghost use Rattle.reduction.specs.Potential.{potential_of};
-ghost use Rattle.reduction.specs.Range.{outside, out_of_range};
-ghost use Rattle.reduction.specs.Halves.{wrong_member, wrong_amounts};
-ghost use Rattle.reduction.specs.Search.{factor_of, takes};
-ghost use Rattle.reduction.specs.Answer.{reduction_limit_of, numbers_of_reduction, reduction_is_refused, has_scope};
+ghost use Rattle.reduction.specs.Range.{out_of_range};
+ghost use Rattle.reduction.specs.Search.{takes};
+ghost use Rattle.reduction.specs.Answer.{reduction_limit_of, numbers_of_reduction, has_scope};
 ghost use Rattle.reduction.specs.Clauses.{ReductionRefusals, ReductionAnswered};
-ghost use Rattle.reduction.specs.Noted.{nothing_noted, noted_at};
 
 use money::{Pence, PensionPence};
+use refusals::Refusal;
+
+// How many candidates there are.
+pub const CANDIDATES: usize = 3;
+
+// The most pounds a year that the existing pension or the limit may be.
+const MOST_POUNDS: u32 = 1000000;
+
+// The billionths in 1.
+const BILLION: u64 = 1000000000;
 
 // What is asked. Any numbers: `reduction_limit` refuses those that are out of range.
 #[derive(Clone, Copy)]
@@ -24,38 +35,19 @@ pub struct Application {
     // whole-time pay, in whole pounds a year
     pub pay: u32,
     // the early-retirement factor (ERF) of each candidate: what retiring at that age leaves of a pension, in thousandths
-    pub erf_first: u32,
-    pub erf_second: u32,
-    pub erf_third: u32,
+    pub erfs: [u32; CANDIDATES],
     // A, the Additional Pension that is there already, and L, the overall limit
     pub existing: PensionPence,
     pub limit: PensionPence,
 }
 
-// B of each candidate, what a buy-out up to it can be worth at most; nothing for one that is not tried.
+// The earliest age, if there is scope; and B of each candidate, what a buy-out up to it can be worth at most: nothing for one that is
+// not tried.
 #[derive(Clone, Copy)]
-pub struct Potentials {
-    pub first: PensionPence,
-    pub second: PensionPence,
-    pub third: PensionPence,
+pub struct ReductionLimit {
+    pub age: Option<u32>,
+    pub potentials: [PensionPence; CANDIDATES],
 }
-
-// The answer: an input is out of range, or there is no scope, or the earliest age; and the B of the candidates that were tried.
-#[derive(Clone, Copy)]
-pub enum ReductionLimit {
-    Refused,
-    NoScope(Potentials),
-    Found { age: u32, potentials: Potentials },
-}
-
-// How many candidates there are.
-const CANDIDATES: u32 = 3;
-
-// The most pounds a year that the existing pension or the limit may be.
-const MOST_POUNDS: u32 = 1000000;
-
-// The billionths in 1.
-const BILLION: u64 = 1000000000;
 
 // The power a year later.
 fn grown(power: u64) -> u64
@@ -66,21 +58,21 @@ fn grown(power: u64) -> u64
 }
 
 // 1.015 to a number of years, in billionths.
+#[tactic(auto, using(crate::proofs::Growth::power_more, crate::proofs::Growth::power_most), unfolding(crate::specs::Power::power_of))]
 fn power_to(years: u32) -> u64
     requires { years ≤ 45 }
     ensures { result ≡ power_of years }
 {
     let mut power = BILLION;
-    let mut i: u32 = 0;
-    while i < years {
+    for _ in 0..years {
         power = grown(power);
-        i += 1;
     }
     power
 }
 
 // B of a candidate: a product over 54 × 1,000 × 10^9. The hundred that makes pounds pence is cancelled on both sides, which leaves
 // 540 × 10^9: with it the product would not fit 64 bits.
+#[tactic(auto, using(crate::proofs::Distance::potential_cancelled, crate::proofs::Distance::grown_most, crate::proofs::Distance::product_most))]
 fn potential(years: u32, power: u64, pay: u32, erf: u32) -> PensionPence
     requires { (years ≤ 45) × ((power ≡ power_of years) × ((pay ≤ 200000) × (erf ≤ 1000))) }
     ensures { result ≡ pension (potential_of years pay erf) }
@@ -92,157 +84,85 @@ fn potential(years: u32, power: u64, pay: u32, erf: u32) -> PensionPence
     )
 }
 
-fn outside(least: u32, most: u32, x: u32) -> bool
-    ensures { result ≡ outside least most x }
-{
-    if x < least {
-        return true;
-    }
-    most < x
-}
-
-// The first half of the tests: pension age, age and pay.
-fn wrong_member(a: Application) -> bool
-    ensures { result ≡ wrong_member a }
-{
-    if outside(66, 70, a.npa) {
-        return true;
-    }
-    if outside(24, 64, a.age) {
-        return true;
-    }
-    outside(1, 200000, a.pay)
-}
-
-// The second half: the factors, used or not, the existing pension and the limit.
-fn wrong_amounts(a: Application) -> bool
-    ensures { result ≡ wrong_amounts a }
-{
-    if 1000 < a.erf_first {
-        return true;
-    }
-    if 1000 < a.erf_second {
-        return true;
-    }
-    if 1000 < a.erf_third {
-        return true;
-    }
-    let most = PensionPence::of_pounds(MOST_POUNDS);
-    let existing = a.existing;
-    if existing.is_above(most) {
-        return true;
-    }
-    let limit = a.limit;
-    limit.is_above(most)
-}
-
-fn out_of_range(a: Application) -> bool
-    ensures { result ≡ out_of_range a }
-{
-    if wrong_member(a) {
-        return true;
-    }
-    wrong_amounts(a)
-}
-
-// NPA − 3, but at least 65.
-fn first_candidate(npa: u32) -> u32
-    ensures { result ≡ max 65 (npa - 3) }
-{
-    if npa <= 68 {
-        return 65;
-    }
-    npa - 3
-}
-
-// The factor of a candidate.
-fn factor(a: Application, k: u32) -> u32
-    ensures { result ≡ factor_of a k }
-{
-    match k {
-        0 => a.erf_first,
-        1 => a.erf_second,
-        _ => a.erf_third,
-    }
-}
-
-// Whether a candidate is taken: untested without existing pension, else if B < C. Of the two in C only L − A can be above B; and as B is not
-// below zero, L − A may be cut off at 0.
-fn takes(b: PensionPence, existing: PensionPence, limit: PensionPence) -> bool
-    ensures { result ≡ takes b.0 existing.0 limit.0 }
-{
-    if existing.is_above(PensionPence::none()) {
-        return limit.less(existing).is_above(b);
-    }
-    true
-}
-
-impl Potentials {
-    // No candidate was tried.
-    fn none() -> Self
-        ensures { result ≡ nothing_noted }
+impl Application {
+    // Whether a factor is out of range, used or not.
+    fn has_wrong_factor(self) -> bool
+        ensures { result ≡ list_any (ltb 1000) self.erfs }
     {
-        Potentials {
-            first: PensionPence::none(),
-            second: PensionPence::none(),
-            third: PensionPence::none(),
-        }
+        self.erfs.iter().any(|&erf| erf > 1000)
     }
 
-    // B of candidate k, beside those that are there.
-    fn noted(mut self, k: u32, b: PensionPence) -> Self
-        ensures { result ≡ noted_at self k b }
+    // Whether any number is.
+    #[tactic(auto, unfolding(crate::specs::Range::out_of_range, crate::specs::Range::outside))]
+    fn is_out_of_range(self) -> bool
+        ensures { result ≡ out_of_range self }
     {
-        match k {
-            0 => {
-                self.first = b;
-                self
-            }
-            1 => {
-                self.second = b;
-                self
-            }
-            _ => {
-                self.third = b;
-                self
-            }
+        let most = PensionPence::of_pounds(MOST_POUNDS);
+        !(66..=70).contains(&self.npa)
+            || !(24..=64).contains(&self.age)
+            || !(1..=200000).contains(&self.pay)
+            || self.has_wrong_factor()
+            || self.existing.is_above(most)
+            || self.limit.is_above(most)
+    }
+
+    fn check(self) -> Result<(), Refusal>
+        ensures { refusal_in result ≡ pick (out_of_range self) 18 0 }
+    {
+        if self.is_out_of_range() {
+            return Err(Refusal::OutOfRange);
         }
+        Ok(())
+    }
+
+    // NPA − 3, but at least 65.
+    fn first_candidate(self) -> u32
+        ensures { result ≡ max 65 (self.npa - 3) }
+    {
+        self.npa.saturating_sub(3).max(65)
+    }
+
+    // Whether a candidate is taken: untested without existing pension, else if B < C. Of the two in C only L − A can be above B; and as B
+    // is not below zero, L − A may be cut off at 0.
+    #[tactic(auto, using(crate::proofs::Headroom::takes_none, crate::proofs::Headroom::takes_some))]
+    fn takes(self, b: PensionPence) -> bool
+        ensures { result ≡ takes b.0 self.existing.0 self.limit.0 }
+    {
+        !self.existing.is_above(PensionPence::none()) || self.limit.less(self.existing).is_above(b)
     }
 }
 
 // The first candidate below NPA that is taken, with the B of those up to it; or no scope, with the B of all below NPA. The power of each
 // candidate is that of the one before it, a year further.
-pub fn reduction_limit(a: Application) -> ReductionLimit
+#[tactic(auto, using(crate::proofs::Searching::search_steps))]
+pub fn reduction_limit(a: Application) -> Result<ReductionLimit, Refusal>
     ensures is { numbers_of_reduction result ≡ reduction_limit_of a }
     ensures refusals { ReductionRefusals a (numbers_of_reduction result) }
     ensures answered { ReductionAnswered a (numbers_of_reduction result) }
-    ensures refused { reduction_is_refused result ≡ ltb 0 (reduction_limit_of a).refusal }
+    ensures refused { is_refused result ≡ ltb 0 (reduction_limit_of a).refusal }
     ensures scope { has_scope result ≡ ltb 0 (reduction_limit_of a).age }
 {
-    if out_of_range(a) {
-        return ReductionLimit::Refused;
-    }
-    let existing = a.existing;
-    let limit = a.limit;
-    let mut potentials = Potentials::none();
-    let mut candidate = first_candidate(a.npa);
-    let mut power = power_to(candidate - a.age);
-    let mut k: u32 = 0;
-    while k < CANDIDATES {
+    a.check()?;
+    let first = a.first_candidate();
+    let mut power = power_to(first - a.age);
+    let mut potentials = [PensionPence::none(); CANDIDATES];
+    for (k, &erf) in a.erfs.iter().enumerate() {
+        let candidate = first + k as u32;
         if a.npa <= candidate {
-            return ReductionLimit::NoScope(potentials);
+            break;
         }
-        let b = potential(candidate - a.age, power, a.pay, factor(a, k));
-        potentials = potentials.noted(k, b);
-        if takes(b, existing, limit) {
-            return ReductionLimit::Found {
-                age: candidate,
+        let b = potential(candidate - a.age, power, a.pay, erf);
+        potentials[k] = b;
+        if a.takes(b) {
+            return Ok(ReductionLimit {
+                age: Some(candidate),
                 potentials,
-            };
+            });
         }
-        candidate += 1;
         power = grown(power);
-        k += 1;
     }
-    ReductionLimit::NoScope(potentials)
+    Ok(ReductionLimit {
+        age: None,
+        potentials,
+    })
 }

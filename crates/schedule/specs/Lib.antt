@@ -1,2 +1,3 @@
 pub mod Schedule
+pub mod Tables
 pub mod Walk

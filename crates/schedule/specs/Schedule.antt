@@ -1,11 +1,12 @@
 -- Document 01, "What each operation gives", Schedule.
 -- Assumes nothing.
-use Rattle.std.specs.Prelude.{List, ◌++◌, ℕ, suc, ltb, eqb, length, take, drop}
+use Rattle.std.specs.Prelude.{Result, List, ◌++◌, ℕ, suc, ltb, eqb, length, take, drop}
 use Rattle.common.specs.Choice.{pick}
 use Rattle.common.specs.Table.{tabulate}
 use Rattle.terms.specs.declared.Terms.{Terms}
 use Rattle.settlement.specs.Settle.{settle_of}
-use Rattle.schedule.specs.declared.Scheduled.{Scheduled}
+use Rattle.refusals.specs.declared.Refused.{Refused}
+use Rattle.refusals.specs.Places.{refused_in}
 
 -- an entry is Settle's credit for the marks up to and with its own
 unfoldable pub entry_of : Terms → List ℕ → ℕ → ℕ
@@ -22,8 +23,8 @@ pub record ScheduleNumbers : Type 0 where
   pub list : List ℕ
 
 -- document 01's numbers of an answer, beside the list
-abbrev pub numbers_of_schedule : Scheduled → List ℕ → ScheduleNumbers
-numbers_of_schedule r list = record { refusal = r.refusal; place = r.place; list = list }
+abbrev pub numbers_of_schedule : Result Unit Refused → List ℕ → ScheduleNumbers
+numbers_of_schedule r list = record { refusal = (refused_in r).number; place = (refused_in r).place; list = list }
 
 -- Settle's refusal with its place, then 14 for a list that is shorter than the marks; neither writes anything
 unfoldable pub schedule_of : Terms → List ℕ → List ℕ → ScheduleNumbers

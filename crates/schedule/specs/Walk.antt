@@ -1,78 +1,72 @@
 -- Not rules: the marks walked through once, with what both tables' runs have earned so far. proofs/Laws shows that what is then held is
 -- the entry of the schedule.
 -- Assumes nothing.
-use Rattle.std.specs.Prelude.{List, ◌≡◌, ℕ, ◌+◌, ◌*◌, ◌≤◌, ◌<◌, ◌^◌, eqb, get_or}
+use Rattle.std.specs.Prelude.{Option, Some, None, List, ◌≡◌, ℕ, ◌<◌, ◌^◌, eqb}
 use Rattle.common.specs.Choice.{pick}
 use Rattle.rounding.specs.Nearest.{nearest, combine}
-use Rattle.terms.specs.declared.Terms.{Terms}
-use Rattle.election.specs.declared.TableRates.{TableRates}
-use Rattle.marks.specs.Reading.{count_up, step_by, marks_reading, status_from}
-use Rattle.scheme.specs.Scheme.{open_months, pounds_in_pence}
-use Rattle.years.specs.Years.{year_credits}
-use Rattle.years.specs.Elected.{purchase_in}
-use Rattle.credit.specs.SoFar.{nothing_yet, credit_at, after_mark, after_marks, SoFarWithin}
-use Rattle.examination.specs.Refusal.{settle_refusal}
-use Rattle.examination.specs.Examine.{Monthly}
+use Rattle.scheme.specs.Scheme.{open_months}
+use Rattle.marks.specs.Reading.{ReadSoFar, as_read, start_of, count_up, count_mark, marks_reading, status_from}
+use Rattle.credit.specs.declared.CreditSoFar.{CreditSoFar}
+use Rattle.credit.specs.SoFar.{nothing_yet, credit_at, after_mark, after_marks}
+use Rattle.schedule.specs.declared.Tables.{Tables}
 use Rattle.schedule.specs.declared.Walk.{Walk}
 
+-- the reading of the marks so far, and each table's state
+pub record WalkSoFar : Type 0 where
+  pub reading : ReadSoFar
+  pub lower : CreditSoFar
+  pub upper : CreditSoFar
+
+-- the code's walk
+abbrev pub as_walked : Walk → WalkSoFar
+as_walked w = record { reading = as_read w.reading; lower = w.lower; upper = w.upper }
+
+-- before the first mark
+abbrev pub walk_begun : WalkSoFar
+walk_begun = record { reading = start_of open_months; lower = nothing_yet; upper = nothing_yet }
+
+-- a table's state after one mark more, and after all of some marks; nothing is earned where there is no table
+abbrev pub after_mark_in : Option (List ℕ) → CreditSoFar → ℕ → CreditSoFar
+after_mark_in None e mark = e
+after_mark_in (Some years) e mark = after_mark nearest years e mark
+
+abbrev pub after_marks_in : Option (List ℕ) → List ℕ → CreditSoFar
+after_marks_in None marks = nothing_yet
+after_marks_in (Some years) marks = after_marks nearest years nothing_yet marks
+
+-- after one mark more, which is lawful
+abbrev pub step_walk : Tables → WalkSoFar → ℕ → WalkSoFar
+step_walk s w mark =
+    record {
+      reading = count_mark count_up w.reading mark;
+      lower = after_mark nearest s.lower w.lower mark;
+      upper = after_mark_in s.upper w.upper mark;
+    }
+
 -- after all of some marks
-abbrev pub walk_of : Terms → List ℕ → List ℕ → List ℕ → Walk
-walk_of t lower upper marks =
+abbrev pub walk_of : Tables → List ℕ → WalkSoFar
+walk_of s marks =
     record {
-      reading = marks_reading open_months t.term marks;
-      lower = after_marks nearest lower nothing_yet marks;
-      upper = after_marks nearest upper nothing_yet marks;
+      reading = marks_reading open_months s.election.terms.term marks;
+      lower = after_marks nearest s.lower nothing_yet marks;
+      upper = after_marks_in s.upper marks;
     }
 
--- after one mark more
-abbrev pub step_walk : Walk → List ℕ → List ℕ → ℕ → Walk
-step_walk w lower upper mark =
-    record {
-      reading = step_by count_up w.reading mark;
-      lower = after_mark nearest lower w.lower mark;
-      upper = after_mark nearest upper w.upper mark;
-    }
+-- the lower table's credit, combined with the upper's where there is one
+abbrev pub combined_in : Option (List ℕ) → (months lower : ℕ) → CreditSoFar → ℕ
+combined_in None months lower e = lower
+combined_in (Some years) months lower e = combine months lower (credit_at nearest years e)
 
--- both tables' states after i marks keep within their bounds
-pub record WalkWithin (w : Walk) (i : ℕ) : Type 0 where
-  pub lower_month : w.lower.month ≡ i
-  pub lower_small : w.lower.sum.0 ≤ i * 2 ^ 32
-  pub upper_month : w.upper.month ≡ i
-  pub upper_small : w.upper.sum.0 ≤ i * 2 ^ 32
+-- what the runs of the marks walked through earned
+abbrev pub credit_held : Tables → WalkSoFar → ℕ
+credit_held s w = combined_in s.upper s.election.terms.pnpa_months (credit_at nearest s.lower w.lower) w.upper
 
--- what `walk_on` promises: one mark more, within the bounds
-pub record WalkTold (w : Walk) (lower upper : List ℕ) (mark i : ℕ) (r : Walk) : Type 0 where
-  pub is : r ≡ step_walk w lower upper mark
-  pub within : WalkWithin r (i + 1)
+-- what is held after them: nothing when refunded
+unfoldable pub held_of : Tables → WalkSoFar → ℕ
+held_of s w = pick (eqb (status_from s.election.terms.term w.reading) 5) 0 (credit_held s w)
 
--- what is held after the marks walked through: nothing when refunded, else both tables' credits combined
-unfoldable pub held_of : Terms → Walk → List ℕ → List ℕ → ℕ
-held_of t w lower upper =
-    pick (eqb (status_from t.term w.reading) 5) 0
-    (combine t.pnpa_months (credit_at nearest lower w.lower) (credit_at nearest upper w.upper))
-
--- what `held` asks: credits that fit
-pub record Holdable (w : Walk) (lower upper : List ℕ) : Type 0 where
-  pub lower_within : SoFarWithin w.lower
-  pub upper_within : SoFarWithin w.upper
-  pub lower_fits : credit_at nearest lower w.lower < 2 ^ 32
-  pub upper_fits : credit_at nearest upper w.upper < 2 ^ 32
-
--- terms and marks that are not refused, with the whole-year credits of the needed tables
-pub record ScheduledTables (t : Terms) (marks lower upper : List ℕ) : Type 0 where
-  pub none_refused : (settle_refusal t marks).number ≡ 0
-  pub monthly : 0 < t.term
-  pub lower_is : lower ≡ year_credits nearest (purchase_in t t.pnpa_years)
-  pub upper_is : (t.pnpa_months ≡ 0 → ⊥) → upper ≡ year_credits nearest (purchase_in t (t.pnpa_years + 1))
-  pub lower_most : (n : ℕ) → get_or lower n 0 ≤ pounds_in_pence t.amount
-  pub upper_most : (n : ℕ) → get_or upper n 0 ≤ pounds_in_pence t.amount
-
--- what `upper_years` asks: accepted terms of a monthly contract with the rates that they go by, and no year of the only table above the amount
-pub record UpperAsked (t : Terms) (rates : TableRates) (only : List ℕ) : Type 0 where
-  pub monthly : Monthly t rates
-  pub only_most : (n : ℕ) → get_or only n 0 ≤ pounds_in_pence t.amount
-
--- what `upper_years` promises: the upper table's whole-year credits with odd months
-pub record UpperYears (t : Terms) (r : List ℕ) : Type 0 where
-  pub is : (t.pnpa_months ≡ 0 → ⊥) → r ≡ year_credits nearest (purchase_in t (t.pnpa_years + 1))
-  pub most : (n : ℕ) → get_or r n 0 ≤ pounds_in_pence t.amount
+-- what `held` asks: credits that fit, after few enough marks
+pub record Holdable (s : Tables) (w : WalkSoFar) : Type 0 where
+  pub few : w.lower.month < 2 ^ 31
+  pub lower_fits : credit_at nearest s.lower w.lower < 2 ^ 32
+  pub upper_fits : (years : List ℕ) → s.upper ≡ Some years → credit_at nearest years w.upper < 2 ^ 32

@@ -1,128 +1,155 @@
 // A credit for each elapsed month: what a member held after it.
 #![tactic(auto)]
 
-ghost use Rattle.std.specs.Prelude.{◌≡◌, ◌≤◌, ◌<◌, ◌^◌, length};
-ghost use Rattle.money.specs.Money.{pension};
-ghost use Rattle.schedule.specs.Schedule.{filled_of, numbers_of_schedule, schedule_of};
-ghost use Rattle.schedule.specs.Walk.{WalkWithin, WalkTold, held_of, Holdable, ScheduledTables, UpperAsked, UpperYears};
+ghost use Rattle.std.specs.Prelude.{◌≡◌, ◌*◌, ◌≤◌, ◌<◌, ◌^◌, length};
+ghost use Rattle.rounding.specs.Nearest.{nearest};
+ghost use Rattle.years.specs.Years.{year_credits};
+ghost use Rattle.years.specs.Elected.{purchase_in};
+ghost use Rattle.schedule.specs.Tables.{upper_years};
+ghost use Rattle.schedule.specs.Schedule.{numbers_of_schedule, schedule_of};
 
 use credit::CreditSoFar;
-use election::TableRates;
-use marks::Reading;
+use election::Election;
+use marks::{Reading, Status};
 use money::{Pence, PensionPence};
+use refusals::{Refusal, Refused};
 use terms::Terms;
 
-// The answer: a refusal or 0, and where a bad mark stands.
-#[derive(Clone, Copy)]
-pub struct Scheduled {
-    pub refusal: u32,
-    pub place: usize,
-}
-
-// The marks read so far, and what their runs earned in each table.
+// The marks read so far, and what their runs earned in each table; nothing in the upper where there is none.
 #[derive(Clone, Copy)]
 struct Walk {
     reading: Reading,
     lower: CreditSoFar,
     upper: CreditSoFar,
+    ghost lower_small: { lower.sum.0 ≤ lower.month * 2 ^ 32 },
+    ghost upper_small: { upper.sum.0 ≤ upper.month * 2 ^ 32 },
+    ghost upper_behind: { upper.month ≤ lower.month },
 }
 
-// One mark more, after i marks.
-fn walk_on(w: Walk, lower: [u32; 21], upper: [u32; 21], mark: u8, i: usize) -> Walk
-    requires { WalkWithin w i × (i < 2 ^ 31) }
-    ensures { WalkTold w lower upper mark i result }
-{
-    let before = w.reading;
-    let only = w.lower;
-    let other = w.upper;
-    let reading = marks::read_mark(before, mark);
-    let next = credit::after_mark(only, lower, mark);
-    let next_upper = credit::after_mark(other, upper, mark);
-    Walk {
-        reading,
-        lower: next,
-        upper: next_upper,
-    }
+// A monthly election, with the whole-year credits of its tables: the upper only with odd months.
+#[derive(Clone, Copy)]
+struct Tables {
+    election: Election,
+    lower: [u32; 21],
+    upper: Option<[u32; 21]>,
+    ghost monthly: { 0 < election.terms.term },
+    ghost lower_is: { lower ≡ year_credits nearest (purchase_in election.terms election.terms.pnpa_years) },
+    ghost upper_is: { upper ≡ upper_years election.terms },
 }
 
-// What is held after the marks walked through.
-fn held(t: Terms, w: Walk, lower: [u32; 21], upper: [u32; 21]) -> PensionPence
-    requires { Holdable w lower upper }
-    ensures { result ≡ pension (held_of t w lower upper) }
+// The upper table's whole-year credits, where the pension age has odd months.
+#[tactic(auto, using(crate::proofs::Laws::upper_table))]
+fn upper_years(e: Election) -> Option<[u32; 21]>
+    requires { 0 < e.terms.term }
+    ensures { result ≡ upper_years e.terms }
 {
-    let reading = w.reading;
-    if marks::status(t.term, reading) == 5 {
-        return PensionPence::none();
-    }
-    let only = w.lower;
-    let credit = credit::credit_at(only, lower);
-    if t.pnpa_months == 0 {
-        return credit;
-    }
-    let other = w.upper;
-    credit.combine(credit::credit_at(other, upper), t.pnpa_months)
+    let rate = e.rates.upper?;
+    Some(years::year_credits(e.terms, e.terms.pnpa_years + 1, rate))
 }
 
-// An entry for each mark. Each mark is walked through once.
-fn fill(t: Terms, lower: [u32; 21], upper: [u32; 21], marks: &[u8], out: &mut [u32])
-    requires scheduled_tables { ScheduledTables t marks.now lower upper }
-    requires marks_in_bounds { length marks.now ≤ length out.old }
-    ensures { out.new ≡ filled_of t marks.now out.old }
-{
-    let mut w = Walk {
-        reading: marks::start(scheme::OPEN_MONTHS),
-        lower: credit::nothing_yet(),
-        upper: credit::nothing_yet(),
-    };
-    let mut i = 0;
-    while i < marks.len() {
-        w = walk_on(w, lower, upper, marks[i], i);
-        out[i] = held(t, w, lower, upper).0 as u32;
-        i += 1;
+impl Walk {
+    ghost use Rattle.schedule.specs.Walk.{as_walked, walk_begun};
+
+    // Before the first mark.
+    fn begun() -> Walk
+        ensures { as_walked result ≡ walk_begun }
+    {
+        Walk {
+            reading: marks::start(scheme::OPEN_MONTHS),
+            lower: credit::nothing_yet(),
+            upper: credit::nothing_yet(),
+        }
     }
 }
 
-// The upper table's whole-year credits; at a whole pension age they are not looked at, and the only table's stand in for them.
-fn upper_years(t: Terms, rates: TableRates, only: [u32; 21]) -> [u32; 21]
-    requires { UpperAsked t rates only }
-    ensures { UpperYears t result }
-{
-    if t.pnpa_months == 0 {
-        return only;
+impl Tables {
+    ghost use Rattle.money.specs.Money.{pension};
+    ghost use Rattle.examination.specs.Refusal.{settle_refusal};
+    ghost use Rattle.schedule.specs.Schedule.{filled_of};
+    ghost use Rattle.schedule.specs.Walk.{as_walked, step_walk, credit_held, held_of, Holdable};
+
+    // Those of a monthly election.
+    #[tactic(auto, using(settlement::proofs::Purchases::lower_rate_asked))]
+    fn of(e: Election) -> Tables
+        requires { 0 < e.terms.term }
+        ensures { result.election.terms ≡ e.terms }
+    {
+        let t = e.terms;
+        Tables {
+            election: e,
+            lower: years::year_credits(t, t.pnpa_years, e.rates.lower),
+            upper: upper_years(e),
+        }
     }
-    years::year_credits(t, t.pnpa_years + 1, rates.upper)
+
+    // One mark more, of marks that are known to be lawful.
+    fn walk_on(&self, w: Walk, mark: u8) -> Walk
+        requires { w.lower.month < 2 ^ 31 }
+        ensures { as_walked result ≡ step_walk self.now (as_walked w) mark }
+    {
+        Walk {
+            reading: marks::count_mark(w.reading, mark),
+            lower: credit::after_mark(w.lower, self.lower, mark),
+            upper: match self.upper {
+                Some(years) => credit::after_mark(w.upper, years, mark),
+                None => w.upper,
+            },
+        }
+    }
+
+    // What the runs of the marks walked through earned: each table's credit whole, then combined.
+    fn credit_held(&self, w: Walk) -> PensionPence
+        requires { Holdable self.now (as_walked w) }
+        ensures { result ≡ pension (credit_held self.now (as_walked w)) }
+    {
+        let credit = credit::credit_at(w.lower, self.lower);
+        match self.upper {
+            Some(years) => credit.combine(
+                credit::credit_at(w.upper, years),
+                self.election.terms.pnpa_months,
+            ),
+            None => credit,
+        }
+    }
+
+    // What is held after them: nothing when refunded.
+    #[tactic(auto, using(common::proofs::Tests::tests), unfolding(crate::specs::Walk::held_of))]
+    fn held(&self, w: Walk) -> PensionPence
+        requires { Holdable self.now (as_walked w) }
+        ensures { result ≡ pension (held_of self.now (as_walked w)) }
+    {
+        match marks::status(self.election.terms.term, w.reading) {
+            Status::Refunded => PensionPence::none(),
+            _ => self.credit_held(w),
+        }
+    }
+
+    // An entry for each mark. Each mark is walked through once.
+    fn fill(&self, marks: &[u8], out: &mut [u32])
+        requires none_refused { (settle_refusal self.now.election.terms marks.now).number ≡ 0 }
+        requires marks_in_bounds { length marks.now ≤ length out.old }
+        ensures { out.new ≡ filled_of self.now.election.terms marks.now out.old }
+    {
+        let mut w = Walk::begun();
+        for (i, mark) in marks.iter().enumerate() {
+            w = self.walk_on(w, *mark);
+            out[i] = self.held(w).0 as u32;
+        }
+    }
 }
 
 // Writes the credit after each mark to the first entries of the lent list. A refusal writes nothing.
-pub fn schedule(t: Terms, marks: &[u8], out: &mut [u32]) -> Scheduled
+pub fn schedule(t: Terms, marks: &[u8], out: &mut [u32]) -> Result<(), Refused>
     ensures { numbers_of_schedule result out.new ≡ schedule_of t marks.now out.old }
 {
-    let e = examination::examine(t, marks);
-    if e.refusal != 0 {
-        return Scheduled {
-            refusal: e.refusal,
-            place: e.place,
-        };
-    }
+    let examined = examination::examine(t, marks)?;
     if out.len() < marks.len() {
-        return Scheduled {
-            refusal: 14,
-            place: 0,
-        };
+        return Err(Refusal::WrongLength.into());
     }
-    // Nothing to write. A contract with a mark is monthly, so from here on it has rates.
-    if marks.len() == 0 {
-        return Scheduled {
-            refusal: 0,
-            place: 0,
-        };
+    // Nothing to write. A contract with a mark is monthly, so from here on it has tables.
+    if marks.is_empty() {
+        return Ok(());
     }
-    let rates = e.rates;
-    let only = years::year_credits(t, t.pnpa_years, rates.lower);
-    let other = upper_years(t, rates, only);
-    fill(t, only, other, marks, out);
-    Scheduled {
-        refusal: 0,
-        place: 0,
-    }
+    Tables::of(examined.election).fill(marks, out);
+    Ok(())
 }

@@ -26,7 +26,7 @@ returns-in_err-read_digits c =
 pub returns : goal.returns
 returns c =
     let e = sym c.read_fields.ensures ∙ c.in_ok-case.was in
-    let numbers = c.six_numbers_of.ensures ∙ c.settle-answer.ensures.is in
+    let numbers = c.from.ensures ∙ c.settle-answer.ensures.is in
     c.listed.ensures ∙ ap (listed_as c.in_ok-case.case.election) numbers
     ∙ sym (whole_line c.args.line.now (omega arith) (omega arith) e
     ∙ settled_line_lem c.in_ok-case.case _ _ c.in_ok-read_digits.ensures.0 c.in_ok-read_digits.ensures.1)

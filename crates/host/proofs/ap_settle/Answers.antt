@@ -13,11 +13,11 @@ returns-then-out-lt-SETTLE_BYTES c =
 -- a refusal is at most 12
 pub overflow_cast-result : goal.overflow_cast-result
 overflow_cast-result c =
-    let most = settle_value_most _ _ (c.six_numbers_of-n.ensures ∙ c.settle.ensures.is) in
+    let most = settle_value_most _ _ (c.from-n.ensures ∙ c.settle.ensures.is) in
     omega (arith, most)
 
 pub returns : goal.returns
 returns c =
-    let r = settle_stored _ _ _ c.if-out-lt-SETTLE_BYTES.false (c.six_numbers_of-n.ensures ∙ c.settle.ensures.is)
+    let r = settle_stored _ _ _ c.if-out-lt-SETTLE_BYTES.false (c.from-n.ensures ∙ c.settle.ensures.is)
     c.put_all.ensures in
     record { value = r.0; buffer = r.1 }

@@ -1,104 +1,92 @@
 -- `schedule::schedule` meets its contract: Settle's refusal, then a short list, then the entries.
 -- Assumes nothing.
-use mathlib.Core.List.{List}
-use mathlib.Core.Path.{◌≡◌, ap, ◌∙◌}
+use mathlib.Core.List.{List, []}
+use mathlib.Core.Path.{◌≡◌, sym, ap, ◌∙◌}
 use Prim.Native.Nat.{ℕ, ◌≤◌, ◌<◌}
 use native.Mathlib.Omega.{arith}
 use lib.ListN.{length}
-use borrow.Author.Tests.{eq-eqb, ne_eqb, lt-ltb, le-ltb}
+use borrow.Author.Tests.{eq-eqb, eqb-true, eqb-false, ne_eqb, lt-ltb, le-ltb}
+use Rattle.std.proofs.lemmas.Result.{err_from_is_err_and}
 use Rattle.common.specs.Table.{tabulate}
+use Rattle.refusals.specs.declared.Refused.{Refused}
+use Rattle.refusals.specs.Numbers.{refusal_number}
+use Rattle.refusals.specs.Places.{RefusedAt, refusing}
+use Rattle.refusals.proofs.Numbers.{refusal_positive}
 use Rattle.terms.specs.declared.Terms.{Terms}
-use Rattle.schedule.specs.Schedule.{ScheduleNumbers, filled_of, schedule_of}
+use Rattle.examination.proofs.Laws.{settled_marks}
+use Rattle.examination.specs.Refusal.{settle_refusal}
 use Rattle.settlement.specs.Settle.{settle_of}
 use Rattle.settlement.proofs.Laws.{settle_refused, settle_refusal_lem}
-use Rattle.settlement.proofs.Purchases.{lower_rate_asked}
-use Rattle.examination.proofs.Examination.{examined_told, examined_none, examined_monthly}
-use Rattle.examination.proofs.Laws.{settled_marks, examined_refused}
-use Rattle.examination.specs.Refusal.{settle_refusal}
-use Rattle.examination.specs.Examine.{examined_of, Monthly}
-use Rattle.examination.specs.declared.Examined.{Examined}
-use Rattle.schedule.proofs.schedule.Goals.{Else-marks-eq0}
+use Rattle.schedule.specs.Schedule.{ScheduleNumbers, filled_of, schedule_of}
 use Rattle.schedule.proofs.schedule.Goals as goal
 
 at_list : List ℕ → ScheduleNumbers
 at_list l = record { refusal = 0; place = 0; list = l }
 
 module _ (t : Terms) (marks list : List ℕ) where
-  refused : {e : Examined} → e ≡ examined_of t marks → (e.refusal ≡ 0 → ⊥)
-      → ◌≡◌ {A = ScheduleNumbers} (record { refusal = e.refusal; place = e.place; list = list }) (schedule_of t marks list)
+  refused : (e : Refused) → refusing (refusal_number e.refusal) e.place ≡ settle_refusal t marks
+      → ◌≡◌ {A = ScheduleNumbers} (record { refusal = refusal_number e.refusal; place = e.place; list = list }) (schedule_of t marks list)
   unfolding schedule_of
-  refused is some =
-      let refuses : (settle_refusal t marks).number ≡ 0 → ⊥ = λ z. some (examined_told t marks is ∙ z) in
-      rw (is, examined_refused t marks refuses, settle_refused t marks refuses, ne_eqb (settle_refusal t marks).number 0 refuses)
+  refused e is =
+      let some : (settle_refusal t marks).number ≡ 0 → ⊥ = λ z. omega (arith, refusal_positive e.refusal, ap (λ (r : RefusedAt). r.number) is, z) in
+      ap (λ (r : RefusedAt). record { refusal = r.number; place = r.place; list = list }) is
+      ∙ rw (settle_refused t marks some, ne_eqb (settle_refusal t marks).number 0 some)
 
-  short : (settle_refusal t marks).number ≡ 0 → length list < length marks
-      → ◌≡◌ {A = ScheduleNumbers} (record { refusal = 14; place = 0; list = list }) (schedule_of t marks list)
-  unfolding schedule_of
-  short none h = rw (eq-eqb (settle_of t marks).refusal 0 (settle_refusal_lem t marks ∙ none), lt-ltb (length list) (length marks) h)
+  module _ (none : refusing 0 0 ≡ settle_refusal t marks) where
+    pub unrefused : (settle_refusal t marks).number ≡ 0
+    unrefused = sym (ap (λ (r : RefusedAt). r.number) none)
 
-  filled : (settle_refusal t marks).number ≡ 0 → length marks ≤ length list
-      → ◌≡◌ {A = ScheduleNumbers} (record { refusal = 0; place = 0; list = filled_of t marks list }) (schedule_of t marks list)
-  unfolding schedule_of
-  filled none h = rw (eq-eqb (settle_of t marks).refusal 0 (settle_refusal_lem t marks ∙ none), le-ltb (length list) (length marks) h)
+    short : length list < length marks → ◌≡◌ {A = ScheduleNumbers} (record { refusal = 14; place = 0; list = list }) (schedule_of t marks list)
+    unfolding schedule_of
+    short h = rw (eq-eqb (settle_of t marks).refusal 0 (settle_refusal_lem t marks ∙ unrefused), lt-ltb (length list) (length marks) h)
+
+    filled : length marks ≤ length list → at_list (filled_of t marks list) ≡ schedule_of t marks list
+    unfolding schedule_of at_list
+    filled h = rw (eq-eqb (settle_of t marks).refusal 0 (settle_refusal_lem t marks ∙ unrefused), le-ltb (length list) (length marks) h)
 
   -- with no marks nothing is written
   unwritten : length marks ≡ 0 → list ≡ filled_of t marks list
   unfolding filled_of tabulate
   unwritten e = rw e
 
--- a contract with a mark is monthly
-monthly_terms : (t : Terms) (marks : List ℕ) {e : Examined} → e ≡ examined_of t marks → e.refusal ≡ 0 → (length marks ≡ 0 → ⊥)
-    → Monthly t e.rates
-monthly_terms t marks is z some =
-    let none = examined_none t marks is z in
-    examined_monthly t marks is none (omega (arith, (settled_marks t marks none).few))
-
--- with a mark and no refusal the contract is monthly
-monthly_here : (c : Else-marks-eq0) → Monthly c.args.t c.examine-e.result.rates
-monthly_here c = monthly_terms _ _ c.examine-e.ensures c.if-e-ne0.false c.if-marks-eq0.false
-
-pub returns-then-e-ne0 : goal.returns-then-e-ne0
-returns-then-e-ne0 c = refused _ _ _ c.examine-e.ensures c.if-e-ne0.true
+pub returns-in_err-examined : goal.returns-in_err-examined
+returns-in_err-examined c =
+    let p = err_from_is_err_and c.from_residual.result c.from_residual.ensures.1 in
+    rw (p.1, p.2) (refused c.args.t c.args.marks.now _ c.in_err-examined.field-0.0 c.in_err-examined.ensures.refusal)
 
 pub returns-then-out-marks : goal.returns-then-out-marks
-returns-then-out-marks c = short _ _ _ (examined_none _ _ c.examine-e.ensures c.if-e-ne0.false) c.if-out-marks.true
+returns-then-out-marks c = rw c.into.ensures (short c.args.t c.args.marks.now _ c.in_ok-examined.ensures.refusal c.if-out-marks.true)
 
-pub returns-then-marks-eq0 : goal.returns-then-marks-eq0
+pub returns-then-is_empty : goal.returns-then-is_empty
 unfolding at_list
-returns-then-marks-eq0 c =
-    let none = examined_none _ _ c.examine-e.ensures c.if-e-ne0.false in
-    ap at_list (unwritten c.args.t _ _ c.if-marks-eq0.true) ∙ filled _ _ _ none c.if-out-marks.false
+returns-then-is_empty c =
+    let t = c.args.t in
+    let none = eqb-true (length c.args.marks.now) 0 (sym c.if-is_empty.ensures) in
+    ap at_list (unwritten t c.args.marks.now _ none) ∙ filled t c.args.marks.now _ c.in_ok-examined.ensures.refusal c.if-out-marks.false
 
-pub year_credits-only-requires : goal.year_credits-only-requires
-year_credits-only-requires c =
-    let m = monthly_here (goal.at.year_credits-only-requires c).Else-marks-eq0 in
-    let r = lower_rate_asked _ m.passes m.some_years m.rates_are in
-    record { rate_value = r.0; rate_nonzero = r.1 }
+-- a contract with a mark is monthly
+monthly : (t : Terms) (marks : List ℕ) → refusing 0 0 ≡ settle_refusal t marks → (length marks ≡ 0 → ⊥) → 0 < t.term
+monthly t marks none some = omega (arith, some, (settled_marks t marks (unrefused t marks [] none)).few)
 
-pub upper_years-other-requires : goal.upper_years-other-requires
-upper_years-other-requires c =
-    let m = monthly_here (goal.at.upper_years-other-requires c).Else-marks-eq0 in
-    record { monthly = m; only_most = c.year_credits-only.ensures.most }
+pub of-requires : goal.of-requires
+of-requires c =
+    let e = c.in_ok-examined.ensures in
+    let some = eqb-false (length c.args.marks.now) 0 (sym c.if-is_empty.ensures) in
+    rw e.told.terms (monthly c.args.t c.args.marks.now e.refusal some)
 
 pub fill-requires : goal.fill-requires
 fill-requires c =
-    let m = monthly_here (goal.at.fill-requires c).Else-marks-eq0 in
-    let y = c.year_credits-only.ensures in
-    let u = c.upper_years-other.ensures in
+    let e = c.in_ok-examined.ensures in
     record {
-      scheduled_tables = record {
-        none_refused = examined_none _ _ c.examine-e.ensures c.if-e-ne0.false;
-        monthly = m.some_years;
-        lower_is = y.is;
-        upper_is = u.is;
-        lower_most = y.most;
-        upper_most = u.most;
-      };
+      none_refused = rw (c.of.ensures, e.told.terms) (unrefused c.args.t c.args.marks.now [] e.refusal);
       marks_in_bounds = c.if-out-marks.false;
     }
 
 pub returns : goal.returns
 unfolding at_list
 returns c =
-    let none = examined_none _ _ c.examine-e.ensures c.if-e-ne0.false in
-    ap at_list c.fill.ensures ∙ filled _ _ _ none c.if-out-marks.false
+    let t = c.args.t in
+    let e = c.in_ok-examined.ensures in
+    let same = c.of.ensures ∙ e.told.terms in
+    ap at_list (c.fill.ensures ∙ ap (λ (t : Terms). filled_of t c.args.marks.now c.args.out.now) same)
+    ∙ filled t c.args.marks.now _ e.refusal c.if-out-marks.false
