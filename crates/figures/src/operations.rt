@@ -3,9 +3,10 @@ use crate::asked::{Asked, On, Run, Runs};
 use crate::elapsed::Elapsed;
 use money::PensionPence;
 use pay_off::PayOff;
-use quotes::{QuoteAnswer, Register};
-use reduction::{Application, ReductionLimit};
-use schedule::Scheduled;
+use quotes::{QuoteMade, Register};
+use reduction::{Application, CANDIDATES, ReductionLimit};
+use refusals::{Refusal, Refused};
+use settlement::SixNumbers;
 use std::io;
 use terms::Terms;
 
@@ -36,13 +37,10 @@ fn print_rate(
 }
 
 // Refusal, contribution, number.
-fn quote_numbers(answer: QuoteAnswer) -> (u32, u64, u32) {
+fn quote_numbers(answer: Result<QuoteMade, Refusal>) -> (u32, u64, u32) {
     match answer {
-        QuoteAnswer::Refused(refusal) => (refusal, 0, 0),
-        QuoteAnswer::Made {
-            contribution,
-            number,
-        } => (0, contribution.0, number),
+        Err(refusal) => (refusal.number(), 0, 0),
+        Ok(made) => (0, made.contribution.0, made.number),
     }
 }
 
@@ -58,8 +56,7 @@ fn print_quote(rt: &impl Print, on: On, existing: u64, last: u32) -> io::Result<
 
 fn print_settle(rt: &impl Print, on: On, runs: &[Run]) -> io::Result<()> {
     let elapsed = Elapsed::of_runs(runs);
-    let answer = settlement::settle(Terms::from(on), elapsed.as_slice());
-    let n = settlement::six_numbers_of(answer);
+    let n = SixNumbers::from(settlement::settle(Terms::from(on), elapsed.as_slice()));
     let asked = Runs(runs);
     print!(rt; "settle {on}{asked}")?;
     print!(rt;
@@ -73,8 +70,11 @@ fn print_settle(rt: &impl Print, on: On, runs: &[Run]) -> io::Result<()> {
 }
 
 // Refusal, place.
-fn schedule_numbers(answer: Scheduled) -> (u32, usize) {
-    (answer.refusal, answer.place)
+fn schedule_numbers(answer: Result<(), Refused>) -> (u32, usize) {
+    match answer {
+        Err(e) => (e.refusal.number(), e.place),
+        Ok(()) => (0, 0),
+    }
 }
 
 fn print_entries(rt: &impl Print, list: &[u32]) -> io::Result<()> {
@@ -100,14 +100,10 @@ fn print_schedule(rt: &impl Print, on: On, runs: &[Run], entries: usize) -> io::
 }
 
 // Refusal, place, remaining and increased pension, cost.
-fn pay_off_numbers(answer: PayOff) -> (u32, usize, u64, u64, u64) {
+fn pay_off_numbers(answer: Result<PayOff, Refused>) -> (u32, usize, u64, u64, u64) {
     match answer {
-        PayOff::Refused { refusal, place } => (refusal, place, 0, 0, 0),
-        PayOff::Priced {
-            remaining,
-            increased,
-            cost,
-        } => (0, 0, remaining.0, increased.0, cost.0),
+        Err(e) => (e.refusal.number(), e.place, 0, 0, 0),
+        Ok(p) => (0, 0, p.remaining.0, p.increased.0, p.cost.0),
     }
 }
 
@@ -129,12 +125,12 @@ fn print_pay_off(
 }
 
 // Refusal, age, the B of three candidates.
-fn reduction_numbers(answer: ReductionLimit) -> (u32, u32, [u64; 3]) {
+fn reduction_numbers(answer: Result<ReductionLimit, Refusal>) -> (u32, u32, [u64; 3]) {
     match answer {
-        ReductionLimit::Refused => (18, 0, [0, 0, 0]),
-        ReductionLimit::NoScope(p) => (0, 0, [p.first.0, p.second.0, p.third.0]),
-        ReductionLimit::Found { age, potentials: p } => {
-            (0, age, [p.first.0, p.second.0, p.third.0])
+        Err(refusal) => (refusal.number(), 0, [0, 0, 0]),
+        Ok(limit) => {
+            let [first, second, third] = limit.potentials;
+            (0, limit.age.unwrap_or(0), [first.0, second.0, third.0])
         }
     }
 }
@@ -142,9 +138,10 @@ fn reduction_numbers(answer: ReductionLimit) -> (u32, u32, [u64; 3]) {
 fn print_reduction_limit(rt: &impl Print, a: Application) -> io::Result<()> {
     let (refusal, age, [first, second, third]) = reduction_numbers(reduction::reduction_limit(a));
     print!(rt; "reduction-limit {} {} {}", a.npa, a.age, a.pay)?;
+    let [erf_first, erf_second, erf_third] = a.erfs;
     print!(rt;
-        " {} {} {} {} {}",
-        a.erf_first, a.erf_second, a.erf_third, a.existing.0, a.limit.0
+        " {erf_first} {erf_second} {erf_third} {} {}",
+        a.existing.0, a.limit.0
     )?;
     print!(rt; " is refusal {refusal} age {age} first {first} second {second} third {third}")
 }
@@ -153,18 +150,15 @@ fn application(
     npa: u32,
     age: u32,
     pay: u32,
-    factors: [u32; 3],
+    erfs: [u32; CANDIDATES],
     existing: u64,
     limit: u64,
 ) -> Application {
-    let [erf_first, erf_second, erf_third] = factors;
     Application {
         npa,
         age,
         pay,
-        erf_first,
-        erf_second,
-        erf_third,
+        erfs,
         existing: PensionPence(existing),
         limit: PensionPence(limit),
     }
@@ -178,8 +172,8 @@ fn print_row(rt: &impl Print, asked: Asked) -> io::Result<()> {
         Asked::Rate(option, pension_age, age, term) => {
             print_rate(rt, option, pension_age, age, term)
         }
-        Asked::ReductionLimit(npa, age, pay, factors, existing, limit) => {
-            print_reduction_limit(rt, application(npa, age, pay, factors, existing, limit))
+        Asked::ReductionLimit(npa, age, pay, erfs, existing, limit) => {
+            print_reduction_limit(rt, application(npa, age, pay, erfs, existing, limit))
         }
         Asked::Quote(on, existing, last) => print_quote(rt, on, existing, last),
         Asked::Settle(on, runs) => print_settle(rt, on, runs),

@@ -27,9 +27,7 @@ numbers_for m existing limit =
       npa = m.npa;
       age = m.age;
       pay = m.pay;
-      erf_first = m.erf1;
-      erf_second = m.erf2;
-      erf_third = m.erf3;
+      erfs = m.erf1 ∷ m.erf2 ∷ m.erf3 ∷ [];
       existing = pension existing;
       limit = pension limit;
     })
