@@ -2,10 +2,9 @@
 -- Assumes nothing.
 use Rattle.std.specs.Prelude.{List, [], ◌∷◌, ℕ}
 use Rattle.records.specs.declared.Contract.{Contract}
-use Rattle.records.specs.declared.Posted.{Posted}
-use Rattle.records.specs.Post.{post_of, posted_record}
+use Rattle.records.specs.Post.{PostNumbers, post_of, posted_record}
 
 -- the answer to the last of these postings, one after the other; the one before, where there is none
-unfoldable pub last_answer : Posted → Contract → List ℕ → Posted
+unfoldable pub last_answer : PostNumbers → Contract → List ℕ → PostNumbers
 last_answer before c [] = before
 last_answer before c (m ∷ ms) = last_answer (post_of c m) (posted_record c m) ms

@@ -5,11 +5,11 @@ mod cases;
 mod postings;
 
 use cases::{Forged, History};
-use records::{Contract, Posted, RecordCheck};
+use records::Contract;
+use refusals::Refused;
 use scheme::MOST_MARKS;
 use std::io;
 use terms::Terms;
-use totals::Total;
 
 // From age 50, with dependant's pension, at pension age 65: by monthly payments, or at term 0 by a lump sum.
 fn terms_for(term: u32, amount: u32) -> Terms {
@@ -37,41 +37,28 @@ fn forged(terms: Terms, at: usize, mark: u8, count: usize) -> Contract {
     }
 }
 
-// What a record answers before anything is posted into it.
-fn nothing_posted() -> Posted {
-    Posted {
-        refusal: 0,
-        place: 0,
-    }
-}
-
 // Paid months, then missed ones, then another mark a number of times, posted into a record. Gives the answer to the last posting.
-fn post_history(c: &mut Contract, h: History) -> Posted {
+fn post_history(c: &mut Contract, h: History) -> Result<(), Refused> {
     let History(paid, missed, mark, times) = h;
-    let after_paid = postings::post_times(c, nothing_posted(), 1, paid);
+    let after_paid = postings::post_times(c, Ok(()), 1, paid);
     let after_missed = postings::post_times(c, after_paid, 0, missed);
     postings::post_times(c, after_missed, mark, times)
 }
 
-// A posting's refusal and its place.
-fn posted_numbers(posted: Posted) -> (u32, usize) {
-    (posted.refusal, posted.place)
-}
-
-// 1 for a bad record, and its credit.
-fn check_numbers(check: RecordCheck) -> (u8, u64) {
-    (check.bad as u8, check.credit.0)
-}
-
-// A total's refusal, its index and the credit.
-fn total_numbers(t: Total) -> (u32, usize, u64) {
-    (t.refusal, t.index, t.credit.0)
+// The refusal of an answer and its place; 0 and 0 where it is none.
+fn refusal_of<A: Drop>(answer: &Result<A, Refused>) -> (u32, usize) {
+    match answer {
+        Err(e) => (e.refusal.number(), e.place),
+        Ok(_) => (0, 0),
+    }
 }
 
 // The answer to the last posting, then the record as it is left: its count, 1 for a bad one, its credit.
-fn write_outcome(rt: &impl Print, posted: Posted, left: &Contract) -> io::Result<()> {
-    let (refusal, place) = posted_numbers(posted);
-    let (bad, credit) = check_numbers(records::check_record(*left));
+fn write_outcome(rt: &impl Print, posted: Result<(), Refused>, left: &Contract) -> io::Result<()> {
+    let (refusal, place) = refusal_of(&posted);
+    let check = records::check_record(*left);
+    let bad = check.is_err() as u8;
+    let credit = check.map_or(0, |credit| credit.0);
     let count = left.count;
     println!(rt; "{refusal:10}{place:6}{count:6}{bad:4}{credit:8}")
 }
@@ -110,7 +97,7 @@ fn write_forged(rt: &impl Print, case: Forged) -> io::Result<()> {
     let Forged(amount, at, mark, count) = case;
     print!(rt; "{at:6}{mark:6}{count:7}      ")?;
     let mut held = forged(terms_for(5, amount), at, mark, count);
-    let posted = postings::post_times(&mut held, nothing_posted(), 1, 1);
+    let posted = postings::post_times(&mut held, Ok(()), 1, 1);
     write_outcome(rt, posted, &held)
 }
 
@@ -129,7 +116,9 @@ fn write_total_of_each(
     numbers: &[usize],
 ) -> io::Result<()> {
     for n in numbers {
-        let (refusal, index, credit) = total_numbers(postings::total_of_first(list, *n));
+        let total = postings::total_of_first(list, *n);
+        let (refusal, index) = refusal_of(&total);
+        let credit = total.map_or(0, |credit| credit.0);
         println!(rt; "{n:7}{refusal:28}{index:6}{credit:18}")?;
     }
     Ok(())

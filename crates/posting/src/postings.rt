@@ -1,15 +1,22 @@
 // A mark posted a number of times, and the total of the first records of a list.
 ghost use Rattle.std.specs.Prelude.{◌≡◌, replicate, take};
+ghost use Rattle.records.specs.Post.{numbers_of_posting};
 ghost use Rattle.records.specs.History.{posted_all};
 ghost use Rattle.posting.specs.Postings.{last_answer};
-ghost use Rattle.totals.specs.Total.{member_total_of};
+ghost use Rattle.totals.specs.Total.{member_total_of, numbers_of_total};
 
-use records::{Contract, Posted};
-use totals::Total;
+use money::PensionPence;
+use records::Contract;
+use refusals::Refused;
 
 // Posts a mark n times. Gives the answer to the last posting: the one before, where there is none.
-pub fn post_times(c: &mut Contract, before: Posted, mark: u8, n: u8) -> Posted
-    ensures answer { result ≡ last_answer before c.old (replicate n mark) }
+pub fn post_times(
+    c: &mut Contract,
+    before: Result<(), Refused>,
+    mark: u8,
+    n: u8,
+) -> Result<(), Refused>
+    ensures answer { numbers_of_posting result ≡ last_answer (numbers_of_posting before) c.old (replicate n mark) }
     ensures record_left { c.new ≡ posted_all c.old (replicate n mark) }
 {
     let mut last = before;
@@ -20,8 +27,8 @@ pub fn post_times(c: &mut Contract, before: Posted, mark: u8, n: u8) -> Posted
 }
 
 // The total of the first n records, or of all where n is more. 65 are one more than a total takes, so that 14 can be met.
-pub fn total_of_first(records: &[Contract; 65], n: usize) -> Total
-    ensures { result ≡ member_total_of (take n records.now) }
+pub fn total_of_first(records: &[Contract; 65], n: usize) -> Result<PensionPence, Refused>
+    ensures { numbers_of_total result ≡ member_total_of (take n records.now) }
 {
     let end = n.min(65);
     totals::member_total(&records[..end])

@@ -1,23 +1,22 @@
 -- A record is bad by any of three faults, and not bad where it has none.
 -- Assumes nothing.
-use mathlib.Core.Bool.{Bool, true, false, not}
-use mathlib.Core.Path.{◌≡◌, sym, ap, ◌∙◌}
+use mathlib.Core.Bool.{true, false, not}
+use mathlib.Core.Path.{◌≡◌, ap}
+use Rattle.std.proofs.Common.{Ok, Err}
 use Prim.Native.Nat.{◌<◌, ◌≤◌}
-use borrow.Author.Tests.{lt-ltb, le-ltb, eq-eqb, ne_eqb, ltb-false, eqb-true, eqb-false, not-false}
+use native.Mathlib.Omega.{arith}
+use borrow.Author.Tests.{lt-ltb, le-ltb, eq-eqb, ne_eqb, ltb-false, eqb-true, not-false}
 use lib.Dec.{ltb, eqb}
 use Rattle.common.proofs.Tests.{or_true, or_false, by_test}
 use Rattle.scheme.specs.Scheme.{most_marks}
+use Rattle.refusals.specs.declared.Refusal.{Refusal}
+use Rattle.refusals.specs.Numbers.{refusal_number}
+use Rattle.refusals.proofs.Numbers.{refusal_positive}
 use Rattle.money.specs.Money.{pension}
-use Rattle.settlement.specs.Settle.{SettleNumbers}
-use Rattle.settlement.proofs.Laws.{settle_refused, settle_refusal_lem}
+use Rattle.money.specs.declared.PensionPence.{PensionPence}
 use Rattle.records.specs.declared.Contract.{Contract}
-use Rattle.records.specs.declared.RecordCheck.{RecordCheck}
-use Rattle.records.specs.Record.{used_marks, unused_marks, settled_record, all_zero, bad_record}
-use Rattle.records.specs.Check.{bad_check, check_of}
-
--- what the check answers where Settle gives these numbers
-abbrev answer_of : SettleNumbers → RecordCheck
-answer_of n = record { bad = not (eqb n.refusal 0); credit = pension n.credit }
+use Rattle.records.specs.Record.{unused_marks, settled_record, all_zero, bad_record}
+use Rattle.records.specs.Check.{CheckNumbers, bad_check, credited, check_of, check_in}
 
 module _ (c : Contract) where
   pub refused_bad : ((settled_record c).refusal ≡ 0 → ⊥) → bad_record c ≡ true
@@ -59,26 +58,20 @@ module _ (c : Contract) where
   unfolding check_of
   bad_check_lem e = rw e
 
-  -- what Settle says of the marks in use decides, where the other two faults are not there
-  settled_check : c.count ≤ most_marks → all_zero (unused_marks c) ≡ true → answer_of (settled_record c) ≡ check_of c
+  pub credited_check : Good → credited (settled_record c).credit ≡ check_of c
   unfolding check_of
-  settled_check few zeros =
-      by_test (eqb (settled_record c).refusal 0)
-      (λ z.
-      rw (z, good_record (record { settled = eqb-true _ _ z; few = few; zeros = zeros })))
-      (λ z.
-      let some = eqb-false (settled_record c).refusal 0 z in
-      let none = ap (λ (n : SettleNumbers). n.credit) (settle_refused c.terms (used_marks c) (λ e. some (settle_refusal_lem c.terms (used_marks c) ∙ e))) in
-      rw (z, refused_bad some, none))
+  credited_check g = rw (good_record g)
 
-  pub told_check : (n : SettleNumbers) → n ≡ settled_record c → c.count ≤ most_marks → all_zero (unused_marks c) ≡ true → answer_of n ≡ check_of c
-  told_check n e few zeros = ap answer_of e ∙ settled_check few zeros
+  -- what an answer of the check says of the record
 
-  -- the check's answer on a record is the definition's
-  pub check_says : {r : RecordCheck} {b : Bool} → r ≡ check_of c → r.bad ≡ b → bad_record c ≡ b
+  pub check_refused : (r : Refusal) → check_in (Err r) ≡ check_of c → (bad_record c ≡ true) × (refusal_number r ≡ 13)
   unfolding check_of
-  check_says e h = sym (ap (λ (r : RecordCheck). r.bad) e) ∙ h
+  check_refused r e =
+      by_test (bad_record c) (λ b. (b, ap (λ (n : CheckNumbers). n.refusal) (rw b at e)))
+      (λ b. absurd (omega (arith, refusal_positive r, ap (λ (n : CheckNumbers). n.refusal) (rw b at e))))
 
-  pub check_credit : {r : RecordCheck} → r ≡ check_of c → bad_record c ≡ false → r.credit ≡ pension (settled_record c).credit
+  pub check_passed : {credit : PensionPence} → check_in (Ok credit) ≡ check_of c → (bad_record c ≡ false) × (credit ≡ pension (settled_record c).credit)
   unfolding check_of
-  check_credit e b = ap (λ (r : RecordCheck). r.credit) e ∙ rw b
+  check_passed e =
+      by_test (bad_record c) (λ b. absurd (omega (arith, ap (λ (n : CheckNumbers). n.refusal) (rw b at e))))
+      (λ b. (b, ap (λ (n : CheckNumbers). n.credit) (rw b at e)))

@@ -22,9 +22,8 @@ use Rattle.marks.proofs.Term.{too_many_marks, few_refused, marks_lawful, marks_u
 use Rattle.examination.proofs.Laws.{settled_marks}
 use Rattle.settlement.proofs.Laws.{settle_refusal_lem}
 use Rattle.records.specs.declared.Contract.{Contract}
-use Rattle.records.specs.declared.Posted.{Posted}
 use Rattle.records.specs.Record.{used_marks, bad_record}
-use Rattle.records.specs.Post.{post_of}
+use Rattle.records.specs.Post.{PostNumbers, post_of}
 use Rattle.records.proofs.Bad.{not_bad}
 use Rattle.records.proofs.Posting.{marks_with, used_length, bad_answer, marks_answer}
 
@@ -44,7 +43,7 @@ last_bad o ms m n i lawful bad =
     (λ t. omega (arith, ltb-false i (length ms) t, bad.inside, length_last ms m))
 
 -- the count for these two refusals
-abbrev placed : Contract → Posted → ℕ
+abbrev placed : Contract → PostNumbers → ℕ
 placed c p = pick (eqb p.refusal 11 || eqb p.refusal 12) c.count 0
 
 module _ (c : Contract) (m : ℕ) (full : length c.marks ≡ most_marks) where

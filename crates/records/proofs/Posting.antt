@@ -5,16 +5,16 @@ use mathlib.Core.List.{List, [], ◌∷◌, ◌++◌}
 use mathlib.Core.Path.{◌≡◌, sym, ap, ◌∙◌}
 use Prim.Native.Nat.{ℕ, ◌+◌, ◌*◌, ◌<◌, ◌≤◌}
 use native.Mathlib.Omega.{arith}
-use borrow.Author.Tests.{eq-eqb, ne_eqb}
-use lib.ListN.{length, get_or}
-use lib.Seq.{length-take-le, set-get_or}
+use borrow.Author.Tests.{lt-ltb, eq-eqb, ne_eqb}
+use lib.ListN.{length}
+use lib.Seq.{length-take-le}
 use Rattle.common.specs.Calendar.{months_in_year}
 use Rattle.common.proofs.Tests.{by_test}
 use Rattle.scheme.specs.Scheme.{open_months, most_marks}
 use Rattle.terms.specs.declared.Terms.{Terms}
-use Rattle.marks.specs.Reading.{count_up, step_by, marks_reading}
-use Rattle.marks.specs.declared.Reading.{Reading}
-use Rattle.marks.specs.Refusal.{RefusedAt, marks_refusal}
+use Rattle.refusals.specs.Places.{RefusedAt}
+use Rattle.marks.specs.Reading.{ReadSoFar, count_up, step_by, marks_reading}
+use Rattle.marks.specs.Refusal.{marks_refusal}
 use Rattle.marks.proofs.Lists.{length_last}
 use Rattle.marks.proofs.Term.{too_many_marks, marks_number, marks_place, marks_last}
 use Rattle.examination.proofs.Laws.{terms_unrefused, refused_by_marks, settled_few}
@@ -22,12 +22,11 @@ use Rattle.settlement.specs.Settle.{settle_of}
 use Rattle.settlement.proofs.Laws.{settle_refusal_lem, settle_place}
 use Rattle.settlement.proofs.Bounds.{settle_bounds}
 use Rattle.records.specs.declared.Contract.{Contract}
-use Rattle.records.specs.declared.Posted.{Posted}
 use Rattle.records.specs.Record.{used_marks, bad_record}
-use Rattle.records.specs.Post.{settled_with, post_of, with_mark, posted_record}
+use Rattle.records.specs.Post.{PostNumbers, settled_with, post_of, with_mark, posted_record}
 use Rattle.records.proofs.Bad.{not_bad}
 
-abbrev posted_at : (refusal place : ℕ) → Posted
+abbrev posted_at : (refusal place : ℕ) → PostNumbers
 posted_at n i = record { refusal = n; place = i }
 
 -- terms that Settle accepts with some marks it refuses with others by the marks alone
@@ -57,7 +56,7 @@ module _ (c : Contract) (m : ℕ) where
   good_answer b = rw b
 
   pub good_refusal : bad_record c ≡ false → (post_of c m).refusal ≡ (settled_with c m).refusal
-  good_refusal b = ap (λ (p : Posted). p.refusal) (good_answer b)
+  good_refusal b = ap (λ (p : PostNumbers). p.refusal) (good_answer b)
 
   -- a posting gives 13 just where the record is bad
   pub thirteen_bad : (post_of c m).refusal ≡ 13 → bad_record c ≡ true
@@ -66,7 +65,7 @@ module _ (c : Contract) (m : ℕ) where
       (λ b. absurd (omega (arith, good_refusal b, (settle_bounds c.terms marks_with).refusal_most)))
 
   pub bad_thirteen : bad_record c ≡ true → (post_of c m).refusal ≡ 13
-  bad_thirteen b = ap (λ (p : Posted). p.refusal) (bad_answer b)
+  bad_thirteen b = ap (λ (p : PostNumbers). p.refusal) (bad_answer b)
 
   pub marks_answer : bad_record c ≡ false
       → post_of c m ≡ posted_at (marks_refusal open_months c.terms.term marks_with).number (marks_refusal open_months c.terms.term marks_with).place
@@ -84,13 +83,20 @@ module _ (c : Contract) (m : ℕ) where
         ∙ rw (too_many_marks open_months c.terms.term marks_with (omega (arith, length_last (used_marks c) m, used_length c full b)))
 
     pub read_answer : bad_record c ≡ false → c.count < months_in_year * c.terms.term
-        → (r : Reading) → r ≡ step_by count_up (marks_reading open_months c.terms.term (used_marks c)) m
+        → (r : ReadSoFar) → r ≡ step_by count_up (marks_reading open_months c.terms.term (used_marks c)) m
         → posted_at r.refusal r.place ≡ post_of c m
     read_answer b h r is =
         let n = used_length c full b in
         let most = (not_bad c b).few in
         rw (is, marks_last open_months c.terms.term (used_marks c) m (omega arith) (omega arith))
         (rw (marks_number open_months c.terms.term marks_with, marks_place open_months c.terms.term marks_with) (sym (marks_answer b)))
+
+    -- a refused reading stays refused, whatever mark comes after it
+    pub early_answer : bad_record c ≡ false → c.count < months_in_year * c.terms.term
+        → (r : ReadSoFar) → r ≡ marks_reading open_months c.terms.term (used_marks c) → 0 < r.refusal
+        → posted_at r.refusal r.place ≡ post_of c m
+    unfolding step_by
+    early_answer b h r is some = read_answer b h r (rw (← is, lt-ltb 0 r.refusal some))
 
     -- what holds where the mark is taken
     pub record Taken : Type 0 where
@@ -126,7 +132,3 @@ module _ (c : Contract) (m : ℕ) where
   pub refusal_record : ((post_of c m).refusal ≡ 0 → ⊥) → posted_record c m ≡ c
   unfolding posted_record
   refusal_record h = rw (ne_eqb (post_of c m).refusal 0 h)
-
--- what stands there, written once more, changes nothing
-pub unchanged : (c : Contract) (i : ℕ) → with_mark c i (get_or c.marks i 0) c.count ≡ c
-unchanged c i = ap (λ (ms : List ℕ). record { terms = c.terms; marks = ms; count = c.count }) (set-get_or c.marks i 0)

@@ -1,28 +1,19 @@
--- Marks that are all 0 from an index on, and the step to the next index.
+-- Marks that are all 0.
 -- Assumes nothing.
 use mathlib.Core.Bool.{Bool, true, false, ◌&&◌}
 use mathlib.Core.List.{List, [], ◌∷◌}
-use mathlib.Core.Path.{◌≡◌, refl, sym, subst}
-use Prim.Native.Nat.{ℕ, zero, suc, ◌+◌, ◌<◌, ◌≤◌}
-use native.Mathlib.Numerals.{add-one}
-use borrow.Author.Tests.{eq-eqb, ne_eqb}
+use mathlib.Core.Path.{◌≡◌, refl, sym, ap, subst}
+use Prim.Native.Nat.{ℕ, zero, suc}
 use lib.Dec.{T, eqb}
-use lib.ListN.{length, drop, get_or, drop_of_length-le}
-use lib.Seq.{drop-cons}
+use lib.ListN.{drop}
+use Rattle.std.specs.List.{list_all}
 use Rattle.records.specs.Record.{all_zero}
 
-module _ (ms : List ℕ) (i : ℕ) (h : i < length ms) where
-  pub zero_at : get_or ms i 0 ≡ 0 → all_zero (drop i ms) ≡ all_zero (drop (i + 1) ms)
-  unfolding all_zero
-  zero_at e = rw (add-one, drop-cons ms i 0 h, eq-eqb (get_or ms i 0) 0 e)
-
-  pub zero_not_at : (get_or ms i 0 ≡ 0 → ⊥) → all_zero (drop i ms) ≡ false
-  unfolding all_zero
-  zero_not_at e = rw (drop-cons ms i 0 h, ne_eqb (get_or ms i 0) 0 e)
-
-pub zero_past : (ms : List ℕ) (i : ℕ) → length ms ≤ i → all_zero (drop i ms) ≡ true
+-- what a test of each mark in turn answers
+pub list_all_zero : (ms : List ℕ) → list_all (λ m. eqb m 0) ms ≡ all_zero ms
 unfolding all_zero
-zero_past ms i h = rw (drop_of_length-le ms h)
+list_all_zero [] = refl
+list_all_zero (m ∷ ms) = ap (λ b. eqb m 0 && b) (list_all_zero ms)
 
 pub zeros_further : (ms : List ℕ) (i : ℕ) → all_zero (drop i ms) ≡ true → all_zero (drop (suc i) ms) ≡ true
 unfolding all_zero

@@ -1,5 +1,5 @@
-// The numbers of the scheme that the code goes by, as specs/Scheme.antt has them. First age and margin of the print rule are in the lookups,
-// whose arms stand for ages and terms.
+// The numbers of the scheme that the code goes by, as specs/Scheme.antt has them. First age and margin of the print rule are in `lookup`, in
+// the ages and terms that it takes.
 #![tactic(auto)]
 
 // Pounds of pension a year that a rate is for: pension is sold in such steps.

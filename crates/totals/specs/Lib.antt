@@ -1,2 +1,1 @@
 pub mod Total
-pub mod Tally

@@ -25,7 +25,6 @@ use Rattle.terms.specs.declared.Terms.{Terms}
 use Rattle.years.specs.Elected.{purchase_in}
 use Rattle.years.proofs.Elected.{rates_fall}
 use Rattle.years.proofs.Years.{year_none, year_within, year_past, own_most, years_most}
-use borrow.Author.Rules.{rules}
 use Rattle.years.proofs.year_credits.Goals.{After-monthly_rate-yearly, After-year_credit}
 use Rattle.years.proofs.year_credits.Goals as goal
 

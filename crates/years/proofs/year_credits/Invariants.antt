@@ -1,7 +1,7 @@
 -- `years::year_credits` meets its contract. The loop's invariant: below n the row has the years' credits, and from n on it has 0.
 -- Assumes nothing.
 use mathlib.Core.Path.{◌≡◌}
-use Prim.Native.Nat.{ℕ, ◌+◌, ◌-◌, ◌≤◌, ◌<◌}
+use Prim.Native.Nat.{ℕ, ◌≤◌, ◌<◌}
 use lib.ListN.{length, get_or}
 use Rattle.rounding.specs.Nearest.{nearest}
 use Rattle.years.specs.Years.{year_credit}
