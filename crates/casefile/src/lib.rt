@@ -9,7 +9,7 @@ mod open_line;
 use case_line::{LISTED_BYTES, settle_line};
 pub use open_line::OpenLine;
 
-// How many bytes of the chunk were worked through, how many were written, and the line that is open.
+// How many bytes of the chunk were worked through, how many were written into the lent buffer, and the line that is open.
 #[derive(Clone, Copy)]
 pub struct ChunkSettled {
     pub after: OpenLine,

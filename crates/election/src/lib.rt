@@ -22,7 +22,7 @@ pub struct TableRates {
     pub upper: Option<u32>,
 }
 
-// The rate of terms at a whole pension age, 0 where none is printed: of Table S for a lump sum, else of the monthly table.
+// The rate of terms at a whole pension age, 0 where none is printed, as both lookups give it: of Table S for a lump sum, else of the monthly table.
 #[tactic(auto, using(common::proofs::Tests::tests), unfolding(terms::specs::Rate::table_rate, terms::specs::Rate::rate_for))]
 fn table_rate(t: Terms, pension_age: u32) -> u32
     ensures { result ≡ table_rate t pension_age }

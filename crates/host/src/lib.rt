@@ -1,5 +1,6 @@
 // Quote, Settle, the pay-off and the reduction limit for a host in C or Rust: plain numbers and a byte slice of marks in, the results as
-// bytes in a lent buffer.
+// bytes in a lent buffer. C passes no struct here: each of the seven terms and of the three factors is a parameter, option and payer are
+// numbers, and the results are numbers in the order in which they are stored.
 #![tactic(auto)]
 
 ghost use Rattle.std.specs.Prelude.{◌≡◌, [], ◌∷◌};

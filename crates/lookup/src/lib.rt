@@ -27,7 +27,7 @@ pub fn tenths_in_pence(tenths: u16) -> u32
     tenths as u32 * 10
 }
 
-// The rate of a table for an age and a term, in pence; 0 where it prints none, and without a table.
+// The rate of a table for an age and a term, in pence; 0, which the table holds where it prints none, without a table too.
 pub fn rate_in(table: Option<&[u16; 1020]>, age: u32, term: u32) -> u32
     ensures { result ≡ cell_of first_age print_margin (lent_in_pence table.entry) age term }
 {
@@ -45,7 +45,8 @@ pub trait Tables {
     fn table(pension_age: u32) -> Option<&'static [u16; 1020]>
         ensures { lent_in_pence result ≡ table_of option pension_age };
 
-    // The monthly rate in pence; 0 where none is printed.
+    // The monthly rate in pence; 0 where none is printed, as the tables hold it. It is a number and no Option: a row of whole-year credits
+    // divides by rates that are all known to be printed, and would unwrap each.
     #[tactic(auto, unfolding(rates::specs::Rates::rate_of, rates::specs::Rates::rate_by))]
     fn monthly_rate(pension_age: u32, age: u32, term: u32) -> u32
         ensures { result ≡ rate_of option pension_age age term }

@@ -91,6 +91,7 @@ impl PensionPence {
         PensionPence(self.0.saturating_sub(other.0))
     }
 
+    // The comparison by a name, since contracts of callers say it of the pence inside.
     pub fn is_above(self, other: PensionPence) -> bool
         ensures { result ≡ ltb other.0 self.0 }
     {

@@ -6,7 +6,8 @@ ghost use Rattle.rates.specs.Rates.{lump_rate_of};
 
 mod lump_sum;
 
-// The lump sum for an option at a whole pension age and an age; 0 where none is printed.
+// The lump sum for an option at a whole pension age and an age; 0 where none is printed. It is a number and no Option, as the rules have
+// it; `election` asks whether there is one.
 #[tactic(auto, unfolding(crate::specs::Rates::lump_rate_of, crate::specs::Rates::lump_column))]
 pub fn lump_sum_rate(option: u32, pension_age: u32, age: u32) -> u32
     ensures { result ≡ lump_rate_of option pension_age age }

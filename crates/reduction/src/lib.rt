@@ -27,7 +27,7 @@ const MOST_POUNDS: u32 = 1000000;
 const BILLION: u64 = 1000000000;
 
 // What is asked. Any numbers: `reduction_limit` refuses those that are out of range.
-#[derive(Clone, Copy)]
+#[derive(Clone, Copy, Debug, PartialEq, Eq)]
 pub struct Application {
     // normal pension age (NPA) and age, in whole years
     pub npa: u32,
@@ -43,7 +43,7 @@ pub struct Application {
 
 // The earliest age, if there is scope; and B of each candidate, what a buy-out up to it can be worth at most: nothing for one that is
 // not tried.
-#[derive(Clone, Copy)]
+#[derive(Clone, Copy, Debug, PartialEq, Eq)]
 pub struct ReductionLimit {
     pub age: Option<u32>,
     pub potentials: [PensionPence; CANDIDATES],

@@ -37,7 +37,7 @@ struct Tables {
     ghost upper_is: { upper ≡ upper_years election.terms },
 }
 
-// The upper table's whole-year credits, where the pension age has odd months.
+// The upper table's whole-year credits, where the pension age has odd months. `Tables` keeps what is asked here.
 #[tactic(auto, using(crate::proofs::Laws::upper_table))]
 fn upper_years(e: Election) -> Option<[u32; 21]>
     requires { 0 < e.terms.term }

@@ -29,7 +29,8 @@ pub struct Settlement {
     pub refund: ContributionPence,
 }
 
-// What the paid runs of a monthly contract earned: each table's credit whole, then combined.
+// What the paid runs of a monthly contract earned: each table's credit whole, then combined. A type for monthly elections would be made
+// where the status says so already, for this one call.
 fn runs_credit(e: Election, marks: &[u8]) -> PensionPence
     requires monthly { 0 < e.terms.term }
     requires marks_len_bound { length marks.now ≤ most_marks }
@@ -90,7 +91,7 @@ pub fn settle(t: Terms, marks: &[u8]) -> Result<Settlement, Refused>
     })
 }
 
-// A settlement as document 01's six numbers, for the host calls and the listing; refusal 0 is none.
+// A settlement as document 01's six numbers, as a host in C and the listing take them: refusal and status are numbers, and refusal 0 is none.
 #[derive(Clone, Copy, Debug, PartialEq, Eq)]
 pub struct SixNumbers {
     pub refusal: u64,
