@@ -2,7 +2,7 @@
 #![tactic(auto)]
 
 ghost use Rattle.std.specs.Prelude.{◌≡◌, ◌+◌, IfOk};
-ghost use Rattle.refusals.specs.Numbers.{refusal_in};
+ghost use Rattle.refusals.specs.Parts.{refusal_in};
 ghost use Rattle.money.specs.Contribution.{contribution};
 ghost use Rattle.terms.specs.Rate.{table_rate};
 ghost use Rattle.terms.specs.Rules.{wrong_amount, above_cap, refusal_of};

@@ -3,7 +3,8 @@
 
 ghost use Rattle.std.specs.Prelude.{◌≡◌, IfOk, ◌+◌, ◌≤◌, ◌<◌, ◌^◌, ltb};
 ghost use Rattle.common.specs.Calendar.{months_in_year};
-ghost use Rattle.refusals.specs.Numbers.{refusal_in, is_refused};
+ghost use Rattle.refusals.specs.Numbers.{is_refused};
+ghost use Rattle.refusals.specs.Parts.{refusal_in};
 ghost use Rattle.money.specs.Contribution.{contribution};
 ghost use Rattle.marks.specs.Numbers.{status_number};
 ghost use Rattle.pay_off.specs.Price.{price_of};

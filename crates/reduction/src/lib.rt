@@ -4,7 +4,8 @@
 ghost use Rattle.std.specs.Prelude.{◌≡◌, ◌*◌, ◌-◌, ◌≤◌, ◌<◌, ◌^◌, max, ltb};
 ghost use Rattle.std.specs.List.{list_any};
 ghost use Rattle.common.specs.Choice.{pick};
-ghost use Rattle.refusals.specs.Numbers.{refusal_in, is_refused};
+ghost use Rattle.refusals.specs.Numbers.{is_refused};
+ghost use Rattle.refusals.specs.Parts.{refusal_in};
 ghost use Rattle.rounding.specs.Nearest.{half_up};
 ghost use Rattle.money.specs.Money.{pension};
 ghost use Rattle.reduction.specs.Power.{power_of};

@@ -25,11 +25,6 @@ refusal_number NothingToPayOff = 16
 refusal_number WrongIncrease = 17
 refusal_number OutOfRange = 18
 
--- of an answer that may be a refusal: 0 where it is none
-abbrev pub refusal_in : {A : Type 0} → Result A Refusal → ℕ
-refusal_in (Ok x) = 0
-refusal_in (Err r) = refusal_number r
-
 -- whether an answer is a refusal
 abbrev pub is_refused : {A E : Type 0} → Result A E → Bool
 is_refused (Ok x) = false

@@ -1,13 +1,8 @@
 -- A refusal with its place, and the two numbers of an answer that may be one.
 -- Assumes nothing.
 use Rattle.std.specs.Prelude.{Result, Ok, Err, ℕ}
-use Rattle.refusals.specs.declared.Refusal.{Refusal}
 use Rattle.refusals.specs.declared.Refused.{Refused}
 use Rattle.refusals.specs.Numbers.{refusal_number}
-
--- of a rule that names no place
-abbrev pub at_no_place : Refusal → Refused
-at_no_place r = record { refusal = r; place = 0 }
 
 -- a refusal with its number and place; number 0 is none
 pub record RefusedAt : Type 0 where

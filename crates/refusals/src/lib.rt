@@ -3,7 +3,7 @@
 
 ghost use Rattle.std.specs.Prelude.{◌≡◌};
 ghost use Rattle.refusals.specs.Numbers.{refusal_number};
-ghost use Rattle.refusals.specs.Places.{at_no_place};
+ghost use Rattle.refusals.specs.Parts.{at_no_place};
 
 use std::error::Error;
 use std::fmt;

@@ -2,7 +2,7 @@
 #![tactic(auto)]
 
 ghost use Rattle.std.specs.Prelude.{◌≡◌};
-ghost use Rattle.refusals.specs.Numbers.{refusal_in};
+ghost use Rattle.refusals.specs.Parts.{refusal_in};
 ghost use Rattle.terms.specs.Rules.{wrong_option, wrong_pension_age, wrong_payer};
 ghost use Rattle.terms.specs.Halves.{terms_refusal};
 
