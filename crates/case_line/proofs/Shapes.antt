@@ -1,14 +1,15 @@
 -- Which line of the listing each shape of a line has.
 -- Assumes nothing.
-use mathlib.Core.Bool.{true, false}
+use mathlib.Core.Bool.{Bool, true, false, ◌||◌, false≢true}
 use mathlib.Core.List.{List}
-use mathlib.Core.Path.{◌≡◌, sym, ap, ◌∙◌}
+use mathlib.Core.Path.{◌≡◌, refl, sym, ap, ◌∙◌}
 use Prim.Native.Nat.{ℕ, ◌-◌, ◌<◌, ◌≤◌}
 use native.Mathlib.Omega.{arith}
 use borrow.Author.Tests.{lt-ltb, le-ltb}
 use lib.Dec.{ltb}
 use lib.ListN.{length, take, drop, length-drop}
 use lib.Seq.{take_all}
+use Rattle.common.specs.Choice.{pick}
 use Rattle.common.proofs.Choice.{either}
 use Rattle.settlement.specs.Settle.{settle_of}
 use Rattle.case_line.specs.declared.Case.{Case}
@@ -27,7 +28,18 @@ module _ (c : Case) (digits : List ℕ) where
   unfolding settled_line
   settled_line_lem marks t are = rw t (ap (λ (ms : List ℕ). listed_as c.election (settle_of c.terms ms)) (sym are))
 
+-- where either of two tests is met, what each of them picks
+either_wrong : {A : Type 0} (a b : Bool) (wrong right : A) → a || b ≡ true → pick a wrong (pick b wrong right) ≡ wrong
+either_wrong true b wrong right e = refl
+either_wrong false true wrong right e = refl
+either_wrong false false wrong right e = absurd (false≢true e)
+
 module _ (line : List ℕ) where
+  -- a line of the wrong length has the wrong shape
+  pub not_in_length : ltb (length line) fields_bytes || ltb longest_line (length line) ≡ true → line_of line ≡ wrong_shape
+  unfolding line_of
+  not_in_length e = either_wrong (ltb (length line) fields_bytes) (ltb longest_line (length line)) _ _ e
+
   pub too_short : length line < fields_bytes → line_of line ≡ wrong_shape
   unfolding line_of
   too_short h = rw (lt-ltb (length line) fields_bytes h)

@@ -30,7 +30,7 @@ const PAY_OFF_BYTES: usize = 40;
 const REDUCTION_LIMIT_BYTES: usize = 40;
 
 // The value of a call whose buffer has fewer bytes.
-const SHORT_BUFFER: u32 = 14;
+const SHORT_BUFFER: u32 = Refusal::WrongLength as u32;
 
 // What a quote answers, in the order in which it is stored.
 fn quote_numbers(q: Quoted) -> [u64; 3]

@@ -1,2 +1,3 @@
 pub mod PaidRun
 mod Eight
+pub mod Bits

@@ -1,7 +1,7 @@
 -- The rules of Table S: a computed test, and the law that carries it to the lump sum for each option, pension age and age; and where a lump
 -- sum stands in its column.
 -- Assumes nothing.
-use mathlib.Core.Path.{◌≡◌}
+use mathlib.Core.Path.{◌≡◌, sym, ◌∙◌}
 use mathlib.Core.List.{List, [], ◌∷◌}
 use Prim.Native.Nat.{ℕ, suc, ◌-◌, ◌%◌, ◌≤◌, ◌<◌}
 use native.Mathlib.Omega.{arith}
@@ -59,6 +59,11 @@ printed_lump o p age h =
 pub lump_entry : (o p age : ℕ) → 65 ≤ p → p ≤ 68 → 16 ≤ age → age ≤ 64 → lump_rate_of o p age ≡ get_or (lump_column o) (age - 16) 0
 unfolding lump_rate_of
 lump_entry o p age p-low p-high low high = rw (le-ltb p 65 p-low, le-ltb 68 p p-high, le-ltb age 16 low, le-ltb 64 age high)
+
+-- so it is what stands there in the column that was chosen
+pub lump_chosen : {r option : ℕ} {column : List ℕ} (o p age : ℕ) → 65 ≤ p → p ≤ 68 → 16 ≤ age → age ≤ 64 → option ≡ o → column ≡ lump_column o
+    → r ≡ get_or column (age - 16) 0 → r ≡ lump_rate_of option p age
+lump_chosen o p age p-low p-high low high eo ec e = e ∙ rw (ec, eo) (sym (lump_entry o p age p-low p-high low high))
 
 -- and 0 where none is printed
 pub no_lump : (o p age : ℕ) → (LumpPrinted o p age → ⊥) → lump_rate_of o p age ≡ 0

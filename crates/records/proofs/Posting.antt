@@ -6,8 +6,8 @@ use mathlib.Core.Path.{◌≡◌, sym, ap, ◌∙◌}
 use Prim.Native.Nat.{ℕ, ◌+◌, ◌*◌, ◌<◌, ◌≤◌}
 use native.Mathlib.Omega.{arith}
 use borrow.Author.Tests.{lt-ltb, eq-eqb, ne_eqb}
-use lib.ListN.{length}
-use lib.Seq.{length-take-le}
+use lib.ListN.{length, get_or}
+use lib.Seq.{length-take-le, set-get_or}
 use Rattle.common.specs.Calendar.{months_in_year}
 use Rattle.common.proofs.Tests.{by_test}
 use Rattle.scheme.specs.Scheme.{open_months, most_marks}
@@ -132,3 +132,7 @@ module _ (c : Contract) (m : ℕ) where
   pub refusal_record : ((post_of c m).refusal ≡ 0 → ⊥) → posted_record c m ≡ c
   unfolding posted_record
   refusal_record h = rw (ne_eqb (post_of c m).refusal 0 h)
+
+-- what stands there, written once more, changes nothing
+pub unchanged : (c : Contract) (i : ℕ) → with_mark c i (get_or c.marks i 0) c.count ≡ c
+unchanged c i = ap (λ (ms : List ℕ). record { terms = c.terms; marks = ms; count = c.count }) (set-get_or c.marks i 0)

@@ -90,7 +90,7 @@ impl From<Refusal> for Refused {
 
 impl fmt::Display for Refused {
     fn fmt<W: fmt::Write>(&self, f: &mut fmt::Formatter<W>) -> fmt::Result {
-        write!(f, "{} at {}", self.refusal, self.place)
+        write!(f, "{}, place {}", self.refusal, self.place)
     }
 }
 

@@ -39,9 +39,9 @@ use Rattle.settlement.proofs.Laws.{settle_settled}
 use Rattle.settlement.proofs.Purchases.{upper_rate_asked, no_upper_rate_asked, sound, credit_fits, credit_combined}
 use Rattle.settlement.proofs.Demand.{credit_by_status}
 use Rattle.schedule.specs.Schedule.{entry_of}
-use Rattle.schedule.specs.Tables.{upper_years}
+use Rattle.schedule.specs.YearRows.{upper_years}
 use Rattle.schedule.specs.Walk.{WalkSoFar, walk_begun, after_mark_in, after_marks_in, step_walk, walk_of, combined_in, held_of, Holdable}
-use Rattle.schedule.specs.declared.Tables.{Tables}
+use Rattle.schedule.specs.declared.YearRows.{YearRows}
 
 some_same : (x y : List ℕ) → Some x ≡ Some y → x ≡ y
 some_same x y e = cc
@@ -130,7 +130,7 @@ runs_so_far t lower upper marks l u =
     rw (u, upper_odd t odd, by_runs nearest lower marks, by_runs nearest (year_credits nearest (purchase_in t (t.pnpa_years + 1))) marks, l)
     (sym (credit_combined t marks)))
 
-module _ (s : Tables) (marks : List ℕ) (none : (settle_refusal s.election.terms marks).number ≡ 0) where
+module _ (s : YearRows) (marks : List ℕ) (none : (settle_refusal s.election.terms marks).number ≡ 0) where
   abbrev t : Terms
   t = s.election.terms
 

@@ -1,3 +1,3 @@
 pub mod Schedule
-pub mod Tables
+pub mod YearRows
 pub mod Walk

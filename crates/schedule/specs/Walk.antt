@@ -8,7 +8,7 @@ use Rattle.scheme.specs.Scheme.{open_months}
 use Rattle.marks.specs.Reading.{ReadSoFar, as_read, start_of, count_up, count_mark, marks_reading, status_from}
 use Rattle.credit.specs.declared.CreditSoFar.{CreditSoFar}
 use Rattle.credit.specs.SoFar.{nothing_yet, credit_at, after_mark, after_marks}
-use Rattle.schedule.specs.declared.Tables.{Tables}
+use Rattle.schedule.specs.declared.YearRows.{YearRows}
 use Rattle.schedule.specs.declared.Walk.{Walk}
 
 -- the reading of the marks so far, and each table's state
@@ -35,7 +35,7 @@ after_marks_in None marks = nothing_yet
 after_marks_in (Some years) marks = after_marks nearest years nothing_yet marks
 
 -- after one mark more, which is lawful
-abbrev pub step_walk : Tables → WalkSoFar → ℕ → WalkSoFar
+abbrev pub step_walk : YearRows → WalkSoFar → ℕ → WalkSoFar
 step_walk s w mark =
     record {
       reading = count_mark count_up w.reading mark;
@@ -44,7 +44,7 @@ step_walk s w mark =
     }
 
 -- after all of some marks
-abbrev pub walk_of : Tables → List ℕ → WalkSoFar
+abbrev pub walk_of : YearRows → List ℕ → WalkSoFar
 walk_of s marks =
     record {
       reading = marks_reading open_months s.election.terms.term marks;
@@ -58,15 +58,15 @@ combined_in None months lower e = lower
 combined_in (Some years) months lower e = combine months lower (credit_at nearest years e)
 
 -- what the runs of the marks walked through earned
-abbrev pub credit_held : Tables → WalkSoFar → ℕ
+abbrev pub credit_held : YearRows → WalkSoFar → ℕ
 credit_held s w = combined_in s.upper s.election.terms.pnpa_months (credit_at nearest s.lower w.lower) w.upper
 
 -- what is held after them: nothing when refunded
-unfoldable pub held_of : Tables → WalkSoFar → ℕ
+unfoldable pub held_of : YearRows → WalkSoFar → ℕ
 held_of s w = pick (eqb (status_from s.election.terms.term w.reading) 5) 0 (credit_held s w)
 
 -- what `held` asks: credits that fit, after few enough marks
-pub record Holdable (s : Tables) (w : WalkSoFar) : Type 0 where
+pub record Holdable (s : YearRows) (w : WalkSoFar) : Type 0 where
   pub few : w.lower.month < 2 ^ 31
   pub lower_fits : credit_at nearest s.lower w.lower < 2 ^ 32
   pub upper_fits : (years : List ℕ) → s.upper ≡ Some years → credit_at nearest years w.upper < 2 ^ 32

@@ -5,7 +5,7 @@ ghost use Rattle.std.specs.Prelude.{◌≡◌, ◌*◌, ◌≤◌, ◌<◌, ◌^
 ghost use Rattle.rounding.specs.Nearest.{nearest};
 ghost use Rattle.years.specs.Years.{year_credits};
 ghost use Rattle.years.specs.Elected.{purchase_in};
-ghost use Rattle.schedule.specs.Tables.{upper_years};
+ghost use Rattle.schedule.specs.YearRows.{upper_years};
 ghost use Rattle.schedule.specs.Schedule.{numbers_of_schedule, schedule_of};
 
 use credit::CreditSoFar;
@@ -28,7 +28,7 @@ struct Walk {
 
 // A monthly election, with the whole-year credits of its tables: the upper only with odd months.
 #[derive(Clone, Copy)]
-struct Tables {
+struct YearRows {
     election: Election,
     lower: [u32; 21],
     upper: Option<[u32; 21]>,
@@ -37,7 +37,7 @@ struct Tables {
     ghost upper_is: { upper ≡ upper_years election.terms },
 }
 
-// The upper table's whole-year credits, where the pension age has odd months. `Tables` keeps what is asked here.
+// The upper table's whole-year credits, where the pension age has odd months. `YearRows` keeps what is asked here.
 #[tactic(auto, using(crate::proofs::Laws::upper_table))]
 fn upper_years(e: Election) -> Option<[u32; 21]>
     requires { 0 < e.terms.term }
@@ -62,7 +62,7 @@ impl Walk {
     }
 }
 
-impl Tables {
+impl YearRows {
     ghost use Rattle.money.specs.Money.{pension};
     ghost use Rattle.examination.specs.Refusal.{settle_refusal};
     ghost use Rattle.schedule.specs.Schedule.{filled_of};
@@ -70,12 +70,12 @@ impl Tables {
 
     // Those of a monthly election.
     #[tactic(auto, using(settlement::proofs::Purchases::lower_rate_asked))]
-    fn of(e: Election) -> Tables
+    fn of(e: Election) -> YearRows
         requires { 0 < e.terms.term }
         ensures { result.election.terms ≡ e.terms }
     {
         let t = e.terms;
-        Tables {
+        YearRows {
             election: e,
             lower: years::year_credits(t, t.pnpa_years, e.rates.lower),
             upper: upper_years(e),
@@ -150,6 +150,6 @@ pub fn schedule(t: Terms, marks: &[u8], out: &mut [u32]) -> Result<(), Refused>
     if marks.is_empty() {
         return Ok(());
     }
-    Tables::of(examined.election).fill(marks, out);
+    YearRows::of(examined.election).fill(marks, out);
     Ok(())
 }

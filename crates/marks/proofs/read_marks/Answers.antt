@@ -8,7 +8,7 @@ use Rattle.refusals.proofs.Numbers.{refusal_positive}
 use Rattle.paid_runs.specs.PaidRun.{paid_run}
 use Rattle.paid_runs.proofs.PaidRun.{run_inside}
 use Rattle.marks.specs.Reading.{marks_reading}
-use Rattle.marks.proofs.Runs.{one_read, run_read, refused_read, all_read}
+use Rattle.marks.proofs.Runs.{one_read, run_passed, refused_read, all_read}
 use Rattle.marks.proofs.read_marks.Goals as goal
 
 pub returns-in_err-r : goal.returns-in_err-r
@@ -29,7 +29,7 @@ pub loop-mark-preserved-then-mark-eq1 : goal.loop-mark-preserved-then-mark-eq1
 loop-mark-preserved-then-mark-eq1 c =
     let b = rw c.in-Some.ensures.cases.0 at c.loop-mark.invariant.1 in
     let run : c.run_end-run.result ≡ paid_run c.in-Some.later.now = omega (arith, c.run_end-run.ensures) in
-    let a = run_read _ c.args.marks.now (omega arith) _ _ _ b _ c.in_ok-r.ensures refl c.if-mark-eq1.true in
+    let a = run_passed _ c.args.marks.now (omega arith) _ _ _ b _ c.in_ok-r.ensures refl c.if-mark-eq1.true in
     (c.loop-mark.invariant.0, rw (c.paid_on-r.ensures, run, take_rest) a)
 
 pub loop-mark-preserved : goal.loop-mark-preserved

@@ -1,4 +1,4 @@
--- `schedule::Tables::fill` meets its contract. After i marks the walk is that of the first i marks, and i entries are written.
+-- `schedule::YearRows::fill` meets its contract. After i marks the walk is that of the first i marks, and i entries are written.
 -- Assumes nothing.
 use mathlib.Core.List.{List}
 use mathlib.Core.Path.{◌≡◌, sym, ap, subst, ◌∙◌}
@@ -14,11 +14,11 @@ use Rattle.examination.specs.Refusal.{settle_refusal}
 use Rattle.settlement.proofs.Bounds.{settle_bounds}
 use Rattle.schedule.specs.Schedule.{entry_of, filled_of}
 use Rattle.schedule.specs.Walk.{WalkSoFar, step_walk, walk_of, held_of, Holdable}
-use Rattle.schedule.specs.declared.Tables.{Tables}
+use Rattle.schedule.specs.declared.YearRows.{YearRows}
 use Rattle.schedule.proofs.Laws.{walk_starts, walk_more, walk_months, holds, entry_held}
-use Rattle.schedule.proofs.Tables.fill.Goals as goal
+use Rattle.schedule.proofs.YearRows.fill.Goals as goal
 
-module _ (s : Tables) (marks : List ℕ) (none : (settle_refusal s.election.terms marks).number ≡ 0) where
+module _ (s : YearRows) (marks : List ℕ) (none : (settle_refusal s.election.terms marks).number ≡ 0) where
   next : {w r : WalkSoFar} (i : ℕ) → i < length marks → w ≡ walk_of s (take i marks) → r ≡ step_walk s w (get_or marks i 0)
       → r ≡ walk_of s (take (i + 1) marks)
   next i h walked told = told ∙ ap (λ (w : WalkSoFar). step_walk s w (get_or marks i 0)) walked ∙ walk_more s marks none i h
