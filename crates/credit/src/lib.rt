@@ -26,6 +26,7 @@ pub fn nothing_yet() -> CreditSoFar
 }
 
 // The credit if no mark follows: an open run ends at the present month.
+#[tactic(auto, unfolding(crate::specs::SoFar::credit_at))]
 pub fn credit_at(e: CreditSoFar, years: [u32; 21]) -> PensionPence
     requires { SoFarWithin e }
     ensures is { result ≡ pension (credit_at nearest years e) }
@@ -40,6 +41,7 @@ pub fn credit_at(e: CreditSoFar, years: [u32; 21]) -> PensionPence
 }
 
 // One mark more. The years are looked at only where a run closes.
+#[tactic(auto, using(common::proofs::Tests::tests), unfolding(crate::specs::SoFar::after_mark))]
 pub fn after_mark(e: CreditSoFar, years: [u32; 21], mark: u8) -> CreditSoFar
     requires { SoFarWithin e }
     ensures is { result ≡ after_mark nearest years e mark }
@@ -58,6 +60,7 @@ pub fn after_mark(e: CreditSoFar, years: [u32; 21], mark: u8) -> CreditSoFar
 }
 
 // The credit over the unbroken paid runs of the marks, run by run: the value at the end less the value at the start.
+#[tactic(auto, using(crate::proofs::ByRuns::ends_inside, crate::proofs::ByRuns::past_run, crate::proofs::ByRuns::past_other, crate::proofs::ByRuns::no_runs_left), unfolding(crate::specs::Credit::credit_over, crate::specs::Runs::runs_in))]
 pub fn credit_over(years: [u32; 21], marks: &[u8]) -> PensionPence
     requires { length marks.now < 2 ^ 31 }
     ensures { result ≡ pension (credit_over nearest years marks.now) }

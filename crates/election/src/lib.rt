@@ -56,6 +56,7 @@ fn rate_above(t: Terms) -> Option<u32>
 impl TableRates {
     // The rates that terms go by, whatever the terms; or 5 or 6, the rules on rates. A lump sum without a rate at the upper pension age
     // is 5, a monthly contract 6.
+    #[tactic(auto, using(common::proofs::Tests::tests, crate::proofs::Laws::upper_rate_odd, crate::proofs::Laws::upper_rate_whole, crate::proofs::Rates::found, crate::proofs::Rates::not_found, crate::proofs::Rates::lower_lacks, crate::proofs::Rates::whole_passes, crate::proofs::Rates::odd_passes, crate::proofs::Rates::lump_sum_lacks, crate::proofs::Rates::monthly_lacks))]
     pub fn of(t: Terms) -> Result<TableRates, Refusal>
         ensures refusal { refusal_in result ≡ rate_refusal t }
         ensures rates { IfOk result (λ r. r ≡ rates_of t) }
@@ -88,6 +89,7 @@ pub struct Election {
 
 impl Election {
     // The terms as they are elected beside an existing pension; or the first of the rules 1 to 8 that refuses.
+    #[tactic(auto, using(refusals::proofs::Numbers::refusal_positive, terms::proofs::Laws::terms_decide, terms::proofs::Laws::rates_decide, terms::proofs::Laws::amount_decides))]
     pub fn new(t: Terms, existing: PensionPence) -> Result<Election, Refusal>
         ensures refusal { refusal_in result ≡ refusal_of t existing.0 }
         ensures terms { IfOk result (λ e. e.terms ≡ t) }
@@ -99,6 +101,7 @@ impl Election {
     }
 
     // What it costs.
+    #[tactic(auto, using(rounding::proofs::Laws::combine_none, rounding::proofs::Laws::combine_odd, crate::proofs::Laws::upper_rate_is, crate::proofs::Laws::upper_rate_none), unfolding(crate::specs::Price::contribution_of, crate::specs::Price::contribution_in, crate::specs::Price::contribution_at))]
     pub fn cost(self) -> ContributionPence
         ensures { result ≡ contribution (contribution_of self.terms) }
     {
@@ -137,6 +140,7 @@ fn wrong_amount(t: Terms) -> bool
 
 // Whether the existing pension and the amount together are above the cap. No sum of any existing pension and any amount is made,
 // since it could wrap.
+#[tactic(auto, using(common::proofs::Tests::tests), unfolding(terms::specs::Rules::above_cap))]
 fn above_cap(t: Terms, existing: PensionPence) -> bool
     ensures { result ≡ above_cap t existing.0 }
 {

@@ -21,6 +21,7 @@ pub struct Examined {
 }
 
 // The terms are looked at first, as a quote with nothing existing; then the marks.
+#[tactic(auto, using(common::proofs::Tests::tests, refusals::proofs::Numbers::refusal_positive, crate::proofs::Laws::refused_by_terms, crate::proofs::Laws::refused_by_marks, marks::proofs::Term::marks_number, marks::proofs::Term::marks_place))]
 pub fn examine(t: Terms, marks: &[u8]) -> Result<Examined, Refused>
     ensures refusal { refused_in result ≡ settle_refusal t marks.now }
     ensures told { IfOk result (λ e. ExaminedTold t marks.now e) }

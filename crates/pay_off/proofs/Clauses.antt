@@ -3,7 +3,7 @@
 use mathlib.Core.Bool.{true, false}
 use mathlib.Core.List.{List}
 use mathlib.Core.Logic.{◌⊎◌, inl, inr, ⊎_elim}
-use mathlib.Core.Path.{◌≡◌, refl, sym, ap, ◌∙◌}
+use mathlib.Core.Path.{◌≡◌, refl, sym, ap, subst, ◌∙◌}
 use Prim.Native.Nat.{ℕ, ◌+◌, ◌≤◌, ◌<◌}
 use native.Mathlib.Omega.{arith}
 use lib.Dec.{ltb, eqb}
@@ -163,3 +163,10 @@ module _ (t : Terms) (ms : List ℕ) (age_now increase : ℕ) where
             by_test (no_lump_sum_now t age_now) (λ e. absurd (there (no_lump_says e)))
             (λ e. decided_number t ms age_now increase z ∙ rw (payable_fits settled.status fit, increase_taken range, e));
       }
+
+  -- and so of equal numbers
+  pub same_pay_off_priced : (n : PayOffNumbers) → n ≡ answer → PayOffPriced t ms n
+  same_pay_off_priced n is = subst (PayOffPriced t ms) (sym is) pay_off_priced
+
+  pub same_pay_off_refusals : (n : PayOffNumbers) → n ≡ answer → PayOffRefusals t ms age_now increase n
+  same_pay_off_refusals n is = subst (PayOffRefusals t ms age_now increase) (sym is) pay_off_refusals

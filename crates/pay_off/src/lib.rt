@@ -32,6 +32,7 @@ const LEAST_INCREASE: u32 = 1000;
 const MOST_INCREASE: u32 = 9999;
 
 // The cost of an increased pension at the rate between those of two pension ages, which is not rounded.
+#[tactic(auto, unfolding(crate::specs::Price::price_of))]
 pub fn price(increased: PensionPence, lower: u32, upper: u32, months: u32) -> ContributionPence
     requires { (increased.0 < 2 ^ 28) × (months < months_in_year) }
     ensures { result ≡ contribution (price_of increased.0 lower upper months) }
@@ -60,6 +61,7 @@ fn wrong_increase(increase: u32) -> bool
 // The lump sums at the age now, as an election by lump sum looks them up, that a contract which Settle accepts is paid off at; or the
 // first of 16, 17 and 5. They are not asked of `rates` here: with a second caller its lookup would no longer be inlined into the first
 // (docs/SPEED.md).
+#[tactic(auto, using(crate::proofs::Contract::refuses_status, crate::proofs::Contract::refuses_increase, crate::proofs::Contract::refuses_sums, crate::proofs::Contract::lump_refusal, crate::proofs::Contract::sums_are))]
 fn lump_sums_now(
     t: Terms,
     status: Status,
@@ -83,6 +85,7 @@ fn lump_sums_now(
 }
 
 // What a contract lacks beside its credit, and what that costs. A whole pension age weighs no upper lump sum.
+#[tactic(auto, using(crate::proofs::Costs::increased_most), unfolding(crate::specs::Price::increased_by))]
 fn priced(e: Election, credit: PensionPence, sums: TableRates, increase: u32) -> PayOff
     requires { increase ≤ most_increase }
     ensures { priced_numbers result ≡ priced_pay_off e.terms credit.0 sums.lower (upper_or_none sums) increase }
@@ -102,6 +105,7 @@ fn priced(e: Election, credit: PensionPence, sums: TableRates, increase: u32) ->
 // The remaining pension, the same increased by so many thousandths, and its cost; or the first refusal and its place. The age now is
 // not compared with the age at the election. Settle's refusals and credit come from the two functions that `settle` asks for them: a
 // second place that calls `settle` would cost its host call more (docs/SPEED.md).
+#[tactic(auto, using(common::proofs::Tests::tests, refusals::proofs::Numbers::refusal_positive, examination::proofs::Laws::settled_few, examination::proofs::Told::told_monthly, crate::proofs::Laws::settle_refuses, crate::proofs::Laws::contract_decides, crate::proofs::Settled::same_refusal, crate::proofs::Settled::same_place, crate::proofs::Settled::settles, crate::proofs::Settled::same_status, crate::proofs::Settled::same_credit, crate::proofs::Contract::contract_refused, crate::proofs::Contract::contract_priced, crate::proofs::Contract::price_is, crate::proofs::Contract::contract_passes, crate::proofs::Clauses::same_pay_off_refusals))]
 pub fn pay_off(t: Terms, marks: &[u8], age_now: u32, increase: u32) -> Result<PayOff, Refused>
     ensures is { numbers_of_pay_off result ≡ pay_off_of t marks.now age_now increase }
     ensures priced { PayOffPriced t marks.now (numbers_of_pay_off result) }

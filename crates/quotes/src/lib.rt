@@ -36,6 +36,7 @@ pub struct Quoted {
 pub const LAST_NUMBER: u32 = 999999;
 
 // The contribution and the next number; or the first of the refusals 1 to 9.
+#[tactic(auto, using(common::proofs::Tests::tests, refusals::proofs::Numbers::refusal_positive), unfolding(crate::specs::Quote::quote_of, crate::specs::Quote::quote_refusal))]
 fn answer(t: Terms, existing: PensionPence, register: Register) -> Result<QuoteMade, Refusal>
     ensures is { answer_numbers result (last_after result register.last) ≡ quote_of t existing.0 register.last }
     ensures refused { is_refused result ≡ ltb 0 (quote_of t existing.0 register.last).refusal }
@@ -64,6 +65,7 @@ pub fn quote(t: Terms, existing: PensionPence, register: Register) -> Quoted
 }
 
 // How many pounds may still be bought, in steps of £250.
+#[tactic(auto, unfolding(crate::specs::Cap::cap_decision_of))]
 pub fn cap_decision(existing: PensionPence) -> u32
     ensures is { result ≡ cap_decision_of existing.0 }
     ensures greatest { GreatestUnderCap existing.0 result }

@@ -1,7 +1,7 @@
 -- The numbers of a settlement refuse marks as document 01 says it.
 -- Assumes nothing.
 use mathlib.Core.List.{List}
-use mathlib.Core.Path.{◌≡◌, sym, ap, ◌∙◌}
+use mathlib.Core.Path.{◌≡◌, sym, ap, subst, ◌∙◌}
 use Prim.Native.Nat.{ℕ, ◌<◌}
 use native.Mathlib.Omega.{arith}
 use Rattle.scheme.specs.Scheme.{open_months}
@@ -47,3 +47,7 @@ module _ (t : Terms) (ms : List ℕ) where
             let is = refused_numbers_lem pass some in
             rw is (few_refused open_months t.term ms few (rw is at some));
       }
+
+  -- and so do equal ones
+  pub same_marks_answered : (n : SettleNumbers) → n ≡ settle_of t ms → MarksAnswered t ms n
+  same_marks_answered n is = subst (MarksAnswered t ms) (sym is) marks_answered

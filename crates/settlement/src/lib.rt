@@ -31,6 +31,7 @@ pub struct Settlement {
 
 // What the paid runs of a monthly contract earned: each table's credit whole, then combined. A type for monthly elections would be made
 // where the status says so already, for this one call.
+#[tactic(auto, using(crate::proofs::Purchases::lower_rate_asked, crate::proofs::Purchases::upper_rate_asked, crate::proofs::Purchases::no_upper_rate_asked, crate::proofs::Purchases::credit_fits, crate::proofs::Purchases::credit_combined, rounding::proofs::Laws::combine_none), unfolding(credit::specs::Credit::credit_in))]
 fn runs_credit(e: Election, marks: &[u8]) -> PensionPence
     requires monthly { 0 < e.terms.term }
     requires marks_len_bound { length marks.now ≤ most_marks }
@@ -75,6 +76,7 @@ fn refund_at_status(own: ContributionPence, status: Status, paid_months: usize) 
 }
 
 // Contribution, status, credit and refund; or the first refusal and its place.
+#[tactic(auto, using(common::proofs::Tests::tests, refusals::proofs::Numbers::refusal_positive, examination::proofs::Laws::settled_few, examination::proofs::Told::told_monthly, crate::proofs::Demand::demand_3, crate::proofs::Marks::same_marks_answered), unfolding(crate::specs::Settle::settle_of, crate::specs::Settle::refund_at_status))]
 pub fn settle(t: Terms, marks: &[u8]) -> Result<Settlement, Refused>
     ensures is { numbers_of_settlement result ≡ settle_of t marks.now }
     ensures distance { Demand3 t marks.now (numbers_of_settlement result) }

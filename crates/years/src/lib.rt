@@ -22,6 +22,7 @@ fn year_credit(own: ContributionPence, unit: PensionPence, rate: u32) -> u32
 }
 
 // The twenty-one whole-year credits of terms at a whole pension age; `rate` is that of the term. Year 0 and the years past the term stay 0.
+#[tactic(auto, using(rates::proofs::Laws::rate_printed, crate::proofs::Elected::rates_fall, crate::proofs::Years::year_none))]
 pub fn year_credits(t: Terms, pension_age: u32, rate: u32) -> [u32; 21]
     requires rate_value { rate ≡ rate_of t.option pension_age t.age t.term }
     requires rate_nonzero { (0 < rate) × (pounds_in_pence t.amount < 2 ^ 32) }
@@ -46,6 +47,7 @@ fn year_at(years: &[u32], n: u32) -> u32
 }
 
 // The value at a contract month. Both ends of every run are valued here.
+#[tactic(auto, using(rounding::proofs::Laws::blend_most), unfolding(rounding::specs::Nearest::blend, crate::specs::Years::month_value, crate::specs::Years::month_numerator))]
 pub fn month_value(years: [u32; 21], month: u32) -> PensionPence
     ensures is { result ≡ pension (month_value nearest years month) }
     ensures fits { result.0 < 2 ^ 32 }

@@ -3,54 +3,28 @@
 use mathlib.Core.List.{List}
 use mathlib.Core.Path.{◌≡◌, sym, ap, ◌∙◌}
 use Prim.Native.Nat.{ℕ}
-use native.Mathlib.Omega.{arith}
-use Rattle.std.proofs.lemmas.Result.{err_from_is_err_and}
 use Rattle.scheme.specs.Scheme.{open_months}
-use Rattle.refusals.specs.declared.Refusal.{Refusal}
-use Rattle.refusals.specs.Numbers.{refusal_number}
 use Rattle.refusals.specs.Places.{RefusedAt, refusing}
-use Rattle.refusals.proofs.Numbers.{refusal_positive}
 use Rattle.money.specs.Money.{pension}
 use Rattle.money.specs.declared.PensionPence.{PensionPence}
 use Rattle.terms.specs.declared.Terms.{Terms}
 use Rattle.terms.specs.Rules.{refusal_of}
-use Rattle.marks.specs.Reading.{ReadSoFar, as_read, refused_of, marks_reading, status_from}
+use Rattle.marks.specs.Reading.{ReadSoFar, as_read, marks_reading, status_from}
 use Rattle.marks.proofs.StatusOf.{status_lawful}
 use Rattle.marks.proofs.Term.{marks_counts, marks_number, marks_place}
 use Rattle.examination.specs.Refusal.{settle_refusal}
-use Rattle.examination.proofs.Laws.{refused_by_terms, refused_by_marks, settled_marks}
+use Rattle.examination.proofs.Laws.{refused_by_marks, settled_marks}
 use Rattle.examination.proofs.examine.Goals as goal
 
 -- the terms are refused as with nothing existing
 with_nothing : (t : Terms) {n : ℕ} {nothing : PensionPence} → n ≡ refusal_of t nothing.0 → nothing ≡ pension 0 → n ≡ refusal_of t 0
 with_nothing t e z = e ∙ ap (λ (p : PensionPence). refusal_of t p.0) z
 
-by_terms : (t : Terms) (ms : List ℕ) (r : Refusal) → refusal_number r ≡ refusal_of t 0 → refusing (refusal_number r) 0 ≡ settle_refusal t ms
-by_terms t ms r is =
-    ap (λ n. refusing n 0) is ∙ sym (refused_by_terms t ms (λ z. omega (arith, refusal_positive r, is, z)))
-
 -- the reading has the refusal of the marks
 by_marks : (t : Terms) (ms : List ℕ) (r : ReadSoFar) → refusal_of t 0 ≡ 0 → r ≡ marks_reading open_months t.term ms
     → refusing r.refusal r.place ≡ settle_refusal t ms
 by_marks t ms r pass e =
     rw (e, marks_number open_months t.term ms, marks_place open_months t.term ms) (sym (refused_by_marks t ms pass))
-
-pub returns-in_err-election-clause-refusal : goal.returns-in_err-election-clause-refusal
-returns-in_err-election-clause-refusal c =
-    let p = err_from_is_err_and c.from_residual.result c.from_residual.ensures.1 in
-    rw (p.1, p.2) (by_terms c.args.t _ c.in_err-election.field-0.0 (with_nothing c.args.t c.in_err-election.ensures.refusal c.none.ensures))
-
-pub returns-in_err-reading-clause-refusal : goal.returns-in_err-reading-clause-refusal
-returns-in_err-reading-clause-refusal c =
-    let p = err_from_is_err_and c.from_residual-in_err-reading.result c.from_residual-in_err-reading.ensures.1 in
-    let pass = sym (with_nothing c.args.t c.in_ok-election.ensures.refusal c.none.ensures) in
-    let e = c.in_err-reading.field-0.0 in
-    rw (p.1, p.2) (by_marks c.args.t _ (refused_of (refusal_number e.refusal) e.place) pass c.in_err-reading.ensures)
-
-pub returns-clause-refusal : goal.returns-clause-refusal
-returns-clause-refusal c =
-    by_marks c.args.t _ (as_read c.in_ok-reading.reading) (sym (with_nothing c.args.t c.in_ok-election.ensures.refusal c.none.ensures))
-    c.in_ok-reading.ensures
 
 pub returns-clause-told : goal.returns-clause-told
 returns-clause-told c =

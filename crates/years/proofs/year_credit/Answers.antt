@@ -1,8 +1,7 @@
 -- `years::year_credit` meets its contract: the rounded quotient is at most 2 ^ 32 - 1, as the quotient is.
 -- Assumes nothing.
 use mathlib.Core.Path.{◌≡◌, ap}
-use Prim.Native.Nat.{ℕ, ◌*◌, ◌-◌, ◌≤◌, ◌<◌, ◌^◌}
-use native.Mathlib.Nat.{mul-le-mul_left}
+use Prim.Native.Nat.{ℕ, ◌*◌, ◌-◌, ◌^◌}
 use native.Mathlib.Omega.{arith}
 use Rattle.rounding.specs.Nearest.{nearest}
 use Rattle.rounding.proofs.InForce.{nearest_within_half}
@@ -11,23 +10,11 @@ use Rattle.money.specs.Money.{pension}
 use Rattle.money.specs.declared.PensionPence.{PensionPence}
 use Rattle.years.proofs.year_credit.Goals as goal
 
--- a product that is at most 32 bits times a rate fits 64
-fits : (n rate : ℕ) → rate < 2 ^ 32 → n ≤ (2 ^ 32 - 1) * rate → n < 2 ^ 64
-fits n rate small most =
-    let high : rate ≤ 2 ^ 32 - 1 = omega arith in
-    omega (arith, mul-le-mul_left (2 ^ 32 - 1) high)
-
 bought : (own unit rate : ℕ) (r : PensionPence) → r ≡ pension (nearest (own * unit) rate) → r.0 ≡ nearest (own * unit) rate
 bought own unit rate r e = ap (λ (p : PensionPence). p.0) e
-
-pub buys-requires : goal.buys-requires
-buys-requires c = fits _ c.args.rate (omega arith) c.requires.1
 
 pub overflow_cast-result : goal.overflow_cast-result
 overflow_cast-result c =
     let a = c.args in
     let pre = c.requires in
     omega (arith, round_most nearest nearest_within_half (a.own.0 * a.unit.0) a.rate (2 ^ 32 - 1) pre.0 pre.1, bought _ _ _ _ c.buys.ensures)
-
-pub returns : goal.returns
-returns c = bought _ _ _ _ c.buys.ensures

@@ -1,13 +1,13 @@
 -- `years::year_credits` meets its contract. The loop's invariant: below n the row has the years' credits, and from n on it has 0.
 -- Assumes nothing.
 use mathlib.Core.List.{List}
-use mathlib.Core.Path.{◌≡◌, refl, sym, ap, ◌∙◌}
+use mathlib.Core.Path.{◌≡◌, sym, ap, ◌∙◌}
 use Prim.Native.Nat.{ℕ, ◌+◌, ◌*◌, ◌-◌, ◌≤◌, ◌<◌, ◌^◌}
 use native.Mathlib.Nat.{mul-le-mul_right}
 use native.Mathlib.Omega.{arith}
 use borrow.Author.Tests.{ltb-true, ltb-false}
 use lib.Dec.{ltb}
-use lib.ListN.{length, set, get_or, length-set, get_or-replicate}
+use lib.ListN.{length, set, get_or, length-set}
 use lib.Seq.{get_or-set_other}
 use Rattle.common.proofs.Tests.{by_test}
 use Rattle.common.proofs.Table.{is_tabulate, table_more}
@@ -24,12 +24,9 @@ use Rattle.years.specs.Years.{Purchase, own_contribution, year_credit, year_cred
 use Rattle.terms.specs.declared.Terms.{Terms}
 use Rattle.years.specs.Elected.{purchase_in}
 use Rattle.years.proofs.Elected.{rates_fall}
-use Rattle.years.proofs.Years.{year_none, year_within, year_past, own_most, years_most}
+use Rattle.years.proofs.Years.{year_within, year_past, own_most, years_most}
 use Rattle.years.proofs.year_credits.Goals.{After-monthly_rate-yearly, After-year_credit}
 use Rattle.years.proofs.year_credits.Goals as goal
-
-first : (k : ℕ) → k < 1 → k ≡ 0
-first k h = omega arith
 
 -- what a turn of the loop knows: the contribution, the unit and the rate of its year
 record Turn (p : Purchase) (n : ℕ) (own : ContributionPence) (unit : PensionPence) (rate : ℕ) : Type 0 where
@@ -79,14 +76,6 @@ module _ (t : Terms) (pension_age rate : ℕ) (priced : rate ≡ rate_of t.optio
   own_paid : (own : ContributionPence) → own ≡ contribution (bought.units * rate) → own ≡ contribution (own_contribution bought)
   own_paid own e = rw (← priced) e
 
-pub loop-n-init : goal.loop-n-init
-loop-n-init c =
-    record {
-      long = refl;
-      below = λ k h. rw (first k h) (sym (year_none nearest (purchase_in c.args.t c.args.pension_age)));
-      above = λ k h l. get_or-replicate 21 k 0 0 l;
-    }
-
 -- a turn: year n, from 1 to the term
 turn : (c : After-monthly_rate-yearly) → Turn (purchase_in c.args.t c.args.pension_age) c.loop-n.n c.of_units-own.result c.of_pounds-unit.result c.monthly_rate-yearly.result
 turn c =
@@ -104,16 +93,6 @@ year_credit-requires c =
     let a = c.args in
     year_fits _ _ _ _ _ (turn (goal.at.year_credit-requires c).After-monthly_rate-yearly)
     (falling a.t a.pension_age a.rate c.requires.rate_value c.requires.rate_nonzero.0) (omega (arith, c.requires.rate_nonzero.1))
-
-pub bounds-years-n : goal.bounds-years-n
-bounds-years-n c =
-    let a = c.args in
-    omega (arith, short a.t a.pension_age a.rate c.requires.rate_value c.requires.rate_nonzero.0)
-
-pub overflow_step-n : goal.overflow_step-n
-overflow_step-n c =
-    let a = c.args in
-    omega (arith, short a.t a.pension_age a.rate c.requires.rate_value c.requires.rate_nonzero.0)
 
 -- the row after a turn
 one_year : (c : After-year_credit)
@@ -144,13 +123,6 @@ module _ (t : Terms) (pension_age rate : ℕ) (priced : rate ≡ rate_of t.optio
       let row : get_or years n 0 ≤ bought.units * bought.unit =
       rw is (years_most nearest nearest_within_half bought (short t pension_age rate priced some) (falling t pension_age rate priced some) n) in
       omega arith
-
-pub returns : goal.returns
-returns c =
-    let a = c.args in
-    let w = c.loop-n in
-    let is = filled (purchase_in a.t a.pension_age) w.years w.n (omega arith) w.invariant.long w.invariant.below w.invariant.above in
-    record { is = is; most = all_most a.t a.pension_age a.rate c.requires.rate_value c.requires.rate_nonzero.0 _ is }
 
 pub returns-2 : goal.returns-2
 returns-2 c =

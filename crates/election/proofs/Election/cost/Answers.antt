@@ -5,11 +5,9 @@ use mathlib.Core.Path.{sym, ap, ◌∙◌}
 use Prim.Native.Nat.{ℕ, ◌*◌, ◌/◌, ◌≤◌, ◌<◌, ◌^◌}
 use native.Mathlib.Nat.{mul-le-mul}
 use native.Mathlib.Omega.{arith}
-use Rattle.rounding.proofs.Laws.{combine_none, combine_odd}
 use Rattle.scheme.specs.Scheme.{step_pounds, cap_pounds}
 use Rattle.scheme.specs.Bounds.{most_lump_sum_rate, most_steps}
-use Rattle.election.specs.Price.{contribution_at, contribution_in, contribution_of}
-use Rattle.election.proofs.Laws.{table_rate_most, upper_rate_is, upper_rate_none}
+use Rattle.election.proofs.Laws.{table_rate_most, upper_rate_is}
 use Rattle.election.proofs.Election.cost.Goals as goal
 
 fits : (amount rate : ℕ) → amount ≤ cap_pounds → rate ≤ most_lump_sum_rate → amount / step_pounds * rate < 2 ^ 32
@@ -24,17 +22,3 @@ blend-requires c =
       rw (c.of_units-own.ensures, e.looked_up) (fits e.terms.amount _ low (table_rate_most e.terms e.terms.pnpa_years)),
       rw (c.of_units.ensures, upper.1) (fits e.terms.amount _ low (table_rate_most e.terms _)),
     )
-
-pub returns-in-Some : goal.returns-in-Some
-unfolding contribution_of contribution_in contribution_at
-returns-in-Some c =
-    let e = c.args.self in
-    let upper = upper_rate_is e.terms c.in-Some.rate (sym (ap (λ r. r.upper) e.looked_up) ∙ c.in-Some.is) in
-    c.blend.ensures ∙ rw (c.of_units-own.ensures, c.of_units.ensures, upper.1, e.looked_up, combine_odd _ _ _ upper.0)
-
-pub returns-in-None : goal.returns-in-None
-unfolding contribution_of contribution_in contribution_at
-returns-in-None c =
-    let e = c.args.self in
-    let whole = upper_rate_none e.terms (sym (ap (λ r. r.upper) e.looked_up) ∙ c.in-None.is) in
-    c.of_units-own.ensures ∙ rw (e.looked_up, combine_none _ _ _ whole)
