@@ -84,7 +84,7 @@ for s, twins in shapes.items():
         places[2] += [f'{t} (one of {len(twins)})' for t in twins]
 
 # 3: loops that count an index or steps by hand
-lines(3, 'loop', r'^ *while (?!let )')
+lines(3, 'loop', r"^ *('[a-z]+: )?while (?!let )")
 
 # 4: comparisons, conversions, widths and printing by hand
 lines(4, 'by hand', r'^ *(pub )?fn (is_above|outside|least|at_most_65|count_up|odd|low_byte|low_byte_first|wide|narrow_at|six_numbers_of|year_at|put|write_(text|number|numbers|entries|answer_at|line|column)|say_[a-z_]+)\(')

@@ -1,7 +1,8 @@
 // The rates that the terms of an election go by, the first rule that refuses them, and what they cost.
 #![tactic(auto)]
 
-ghost use Rattle.std.specs.Prelude.{◌≡◌, ◌+◌, IfOk};
+ghost use Rattle.std.specs.Prelude.{◌≡◌, ◌+◌, ◌≤◌, IfOk};
+ghost use Rattle.scheme.specs.Scheme.{cap_pounds};
 ghost use Rattle.refusals.specs.Parts.{refusal_in};
 ghost use Rattle.money.specs.Contribution.{contribution};
 ghost use Rattle.terms.specs.Rate.{table_rate};
@@ -76,6 +77,20 @@ impl TableRates {
             None => Err(Refusal::NoUpperRate),
         }
     }
+
+    // What terms cost whose amount the cap allows, at the rates that are theirs.
+    #[tactic(auto, using(rounding::proofs::Laws::combine_none, rounding::proofs::Laws::combine_odd, crate::proofs::Laws::upper_rate_is, crate::proofs::Laws::upper_rate_none), unfolding(crate::specs::Price::contribution_of, crate::specs::Price::contribution_in, crate::specs::Price::contribution_at))]
+    pub fn cost(self, t: Terms) -> ContributionPence
+        requires { (t.amount ≤ cap_pounds) × (self ≡ rates_of t) }
+        ensures { result ≡ contribution (contribution_of t) }
+    {
+        let units = t.amount / scheme::STEP;
+        let own = ContributionPence::of_units(units, self.lower);
+        match self.upper {
+            Some(rate) => own.blend(ContributionPence::of_units(units, rate), t.pnpa_months),
+            None => own,
+        }
+    }
 }
 
 // Terms that no rule refuses, with the rates that they go by.
@@ -101,23 +116,14 @@ impl Election {
     }
 
     // What it costs.
-    #[tactic(auto, using(rounding::proofs::Laws::combine_none, rounding::proofs::Laws::combine_odd, crate::proofs::Laws::upper_rate_is, crate::proofs::Laws::upper_rate_none), unfolding(crate::specs::Price::contribution_of, crate::specs::Price::contribution_in, crate::specs::Price::contribution_at))]
     pub fn cost(self) -> ContributionPence
         ensures { result ≡ contribution (contribution_of self.terms) }
     {
-        let units = self.terms.amount / scheme::STEP;
-        let own = ContributionPence::of_units(units, self.rates.lower);
-        match self.rates.upper {
-            Some(rate) => own.blend(
-                ContributionPence::of_units(units, rate),
-                self.terms.pnpa_months,
-            ),
-            None => own,
-        }
+        self.rates.cost(self.terms)
     }
 }
 
-// The rules on amount and cap, 7 and 8.
+// The rules on amount and cap, 7 and 8, of terms beside an existing pension: a member has one and many requests, so no type holds both.
 #[tactic(auto, unfolding(terms::specs::Halves::amount_refusal))]
 fn check_amount(t: Terms, existing: PensionPence) -> Result<(), Refusal>
     ensures { refusal_in result ≡ amount_refusal t existing.0 }

@@ -1,4 +1,5 @@
-// A line for each row of a table: what is asked, and what the part gives for it.
+// A line for each row of a table: what is asked, and what the part gives for it. Answers are taken apart here into the columns of a line,
+// which are not those that a host stores: the register, a schedule and the spelling of a refusal differ.
 use crate::asked::{Asked, On, Run, Runs};
 use crate::elapsed::Elapsed;
 use money::PensionPence;

@@ -91,7 +91,7 @@ impl PensionPence {
         PensionPence(self.0.saturating_sub(other.0))
     }
 
-    // The comparison by a name, since contracts of callers say it of the pence inside.
+    // `>` says this of two figures; this says it of the pence inside, of which the contracts of callers speak.
     pub fn is_above(self, other: PensionPence) -> bool
         ensures { result ≡ ltb other.0 self.0 }
     {

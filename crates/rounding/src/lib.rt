@@ -1,4 +1,4 @@
-// Rounding to the nearest whole number, and the blend of two figures by twelfths.
+// Rounding to the nearest whole number, of a figure and its divisor, which every caller has apart, and the blend of two figures by twelfths.
 // Callers go by the laws of proofs/InForce and proofs/Laws, so that another rounding can stand behind the name `nearest`.
 #![tactic(auto)]
 

@@ -38,6 +38,7 @@ fn print_settled<W: Write>(
 {
     let mut line = before;
     let mut rest = read;
+    // Each turn takes as much as the buffer had room for.
     while !rest.is_empty() {
         let done = casefile::settle_chunk(line, rest, out);
         output

@@ -39,7 +39,8 @@ pub fn year_credits(t: Terms, pension_age: u32, rate: u32) -> [u32; 21]
     years
 }
 
-// The credit of a whole year; past the row there is none. The row is lent: one by value would be copied.
+// The credit of a whole year; past the row there is none. The row is lent, by value it would be copied, and asked twice, so this has a
+// name and a promise.
 fn year_at(years: &[u32], n: u32) -> u32
     ensures { result ≡ get_or years.now n 0 }
 {

@@ -1,24 +1,7 @@
--- `election::Election::cost` meets its contract: at most twenty-six times £250 at a bounded rate fit, and the upper table counts with odd
--- months alone.
+-- `election::Election::cost` meets its contract: the cap allows what is accepted, and the rates are those of the terms.
 -- Assumes nothing.
-use mathlib.Core.Path.{sym, ap, ◌∙◌}
-use Prim.Native.Nat.{ℕ, ◌*◌, ◌/◌, ◌≤◌, ◌<◌, ◌^◌}
-use native.Mathlib.Nat.{mul-le-mul}
 use native.Mathlib.Omega.{arith}
-use Rattle.scheme.specs.Scheme.{step_pounds, cap_pounds}
-use Rattle.scheme.specs.Bounds.{most_lump_sum_rate, most_steps}
-use Rattle.election.proofs.Laws.{table_rate_most, upper_rate_is}
 use Rattle.election.proofs.Election.cost.Goals as goal
 
-fits : (amount rate : ℕ) → amount ≤ cap_pounds → rate ≤ most_lump_sum_rate → amount / step_pounds * rate < 2 ^ 32
-fits amount rate p q =
-    omega (arith, mul-le-mul {n₁ = amount / step_pounds} {m₁ = rate} {n₂ = most_steps} {m₂ = most_lump_sum_rate} (omega arith) q)
-
-pub blend-requires : goal.blend-requires
-blend-requires c =
-    let e = c.args.self in
-    let low : e.terms.amount ≤ cap_pounds = omega (arith, e.accepted.under_cap) in
-    let upper = upper_rate_is e.terms c.in-Some.rate (sym (ap (λ r. r.upper) e.looked_up) ∙ c.in-Some.is) in (
-      rw (c.of_units-own.ensures, e.looked_up) (fits e.terms.amount _ low (table_rate_most e.terms e.terms.pnpa_years)),
-      rw (c.of_units.ensures, upper.1) (fits e.terms.amount _ low (table_rate_most e.terms _)),
-    )
+pub cost-requires : goal.cost-requires
+cost-requires c = (omega (arith, c.args.self.accepted.under_cap), c.args.self.looked_up)
