@@ -69,6 +69,7 @@ fn reduction_numbers(answer: Result<ReductionLimit, Refusal>) -> [u64; 5]
 // Quote. A buffer of fewer than 24 bytes is left as it is and gives 14. Otherwise its first 24 bytes are refusal, contribution and
 // next number, and the value is the refusal. The host keeps the register: the last number goes in, the next comes out.
 #[unsafe(no_mangle)]
+#[tactic(auto, using(crate::proofs::Calls::quote_short, crate::proofs::Calls::quote_value_most))]
 pub extern "C" fn ap_quote(
     age: u32,
     pnpa_years: u32,
@@ -106,6 +107,7 @@ pub extern "C" fn ap_quote(
 // Settle. A buffer of fewer than 48 bytes is left as it is and gives 14. Otherwise its first 48 bytes are refusal, place,
 // contribution, status, credit and refund, and the value is the refusal.
 #[unsafe(no_mangle)]
+#[tactic(auto, using(crate::proofs::Calls::settle_short, crate::proofs::Calls::settle_value_most, crate::proofs::Calls::settle_stored))]
 pub extern "C" fn ap_settle(
     age: u32,
     pnpa_years: u32,
@@ -148,6 +150,7 @@ pub extern "C" fn ap_settle(
 // The pay-off. A buffer of fewer than 40 bytes is left as it is and gives 14. Otherwise its first 40 bytes are refusal, place, remaining
 // pension, increased pension and cost, and the value is the refusal.
 #[unsafe(no_mangle)]
+#[tactic(auto, using(crate::proofs::Calls::pay_off_short, crate::proofs::Calls::pay_off_value_most))]
 pub extern "C" fn ap_pay_off(
     age: u32,
     pnpa_years: u32,
@@ -184,6 +187,7 @@ pub extern "C" fn ap_pay_off(
 // The reduction limit. A buffer of fewer than 40 bytes is left as it is and gives 14. Otherwise its first 40 bytes are refusal, age and
 // the B of the three candidates, and the value is the refusal.
 #[unsafe(no_mangle)]
+#[tactic(auto, using(crate::proofs::Calls::reduction_short, crate::proofs::Calls::reduction_value_most))]
 pub extern "C" fn ap_reduction_limit(
     npa: u32,
     age: u32,
