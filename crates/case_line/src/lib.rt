@@ -56,6 +56,7 @@ fn read_fields(line: &[u8]) -> Option<Case>
 }
 
 // Puts the numbers of the digits into marks, if all are digits.
+#[tactic(auto, using(crate::proofs::Marks::no_digit))]
 fn read_digits(digits: &[u8], marks: &mut [u8]) -> Option<()>
     requires { length digits.now ≤ length marks.old }
     ensures { DigitsRead digits.now marks.new result }
@@ -86,6 +87,7 @@ fn listed(election: u32, n: SixNumbers) -> [u8; LISTED_BYTES]
 }
 
 // The listing's line for a wrong shape: refusal 15, all else 0.
+#[tactic(auto, unfolding(crate::specs::Line::wrong_shape))]
 fn wrong_shape() -> [u8; LISTED_BYTES]
     ensures { result ≡ wrong_shape }
 {
@@ -93,6 +95,7 @@ fn wrong_shape() -> [u8; LISTED_BYTES]
 }
 
 // The listing's line for a line of the right shape: 29 to 285 bytes, eight fields that say numbers, and digits behind them.
+#[tactic(auto, using(crate::proofs::Shapes::too_short, crate::proofs::Shapes::too_long, crate::proofs::Shapes::no_fields, crate::proofs::Shapes::whole_line, crate::proofs::Shapes::settled_line_lem))]
 fn settle_shape(line: &[u8]) -> Option<[u8; LISTED_BYTES]>
     ensures { row_or_wrong_shape result ≡ line_of line.now }
 {

@@ -106,6 +106,7 @@ impl PensionPence {
     }
 
     // This times so many thousandths, a half penny going up.
+    #[tactic(auto, using(common::proofs::Product::product_fits))]
     pub fn increased(self, thousandths: u32) -> Self
         requires { self.0 < 2 ^ 32 }
         ensures { result ≡ pension (half_up (self.0 * thousandths) 1000) }
@@ -142,6 +143,7 @@ impl Pence for PensionPence {
 
 impl ContributionPence {
     // A number of units at a rate in pence for each.
+    #[tactic(auto, using(common::proofs::Product::product_fits))]
     pub fn of_units(units: u32, rate: u32) -> Self
         ensures { result ≡ contribution (units * rate) }
     {
@@ -149,6 +151,7 @@ impl ContributionPence {
     }
 
     // The same contribution paid n times.
+    #[tactic(auto, using(common::proofs::Product::product_fits))]
     pub fn times(self, n: u32) -> Self
         requires { self.0 < 2 ^ 32 }
         ensures { result ≡ contribution (self.0 * n) }

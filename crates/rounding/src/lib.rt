@@ -35,6 +35,7 @@ pub fn half_even(n: u64, d: u64) -> u64
 }
 
 // n ÷ d by the rule that contributions, whole-year credits, month values and the combining of two tables go by.
+#[tactic(auto, unfolding(crate::specs::Nearest::nearest))]
 pub fn nearest(n: u64, d: u64) -> u64
     ensures { result ≡ nearest n d }
 {
@@ -50,6 +51,7 @@ pub fn twelfths(m: u32, lo: u32, hi: u32) -> u64
 }
 
 // The same whole, to the nearest.
+#[tactic(auto, unfolding(crate::specs::Nearest::blend))]
 pub fn blend(m: u32, lo: u32, hi: u32) -> u64
     ensures { result ≡ blend m lo hi }
 {

@@ -45,6 +45,7 @@ pub fn number_in(part: &[u8]) -> Option<u32>
 }
 
 // The last digit of what is left of a number; a space where nothing is left.
+#[tactic(auto, using(common::proofs::Tests::tests), unfolding(crate::specs::Column::glyph_of))]
 fn glyph(left: u64) -> u8
     ensures { result ≡ glyph_of left }
 {

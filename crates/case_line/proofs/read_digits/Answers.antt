@@ -1,11 +1,7 @@
 -- `case_line::read_digits` meets its contract. The invariant: what is passed is digits, and their numbers are written.
 -- Assumes nothing.
-use Rattle.std.proofs.Common.{◌∙◌}
-use Rattle.case_line.proofs.Marks.{mark_more, no_digit, marks_end}
+use Rattle.case_line.proofs.Marks.{mark_more, marks_end}
 use Rattle.case_line.proofs.read_digits.Goals as goal
-
-pub returns-then-not-is_ascii_digit : goal.returns-then-not-is_ascii_digit
-returns-then-not-is_ascii_digit c = c.loop-i.invariant.digits ∙ no_digit _ _ c.loop-i-test.true c.if-not-is_ascii_digit.ensures.cases
 
 pub loop-i-preserved : goal.loop-i-preserved
 loop-i-preserved c =
