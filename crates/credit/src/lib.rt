@@ -9,7 +9,7 @@ ghost use Rattle.credit.specs.Credit.{credit_over};
 
 use money::{Pence, PensionPence};
 
-// What the marks read so far have earned. A paid run is open from month `from`; one that begins at `month` itself is empty and earns nothing;
+// What the marks read so far have earned. A paid run is open from month `from`, where that is not `month` itself;
 // `sum` is what the closed runs earned.
 #[derive(Clone, Copy, Debug, PartialEq, Eq, Default)]
 pub struct CreditSoFar {

@@ -1,8 +1,7 @@
 // What is asked, row by row. The numbers of a row are named in asked.rt.
 //
 // The tables are statics: a check carries the rows of a constant through all of the function that names it.
-use crate::asked::Asked::{Blend, CapDecision, Nearest, PayOff, Quote};
-use crate::asked::Asked::{Rate, ReductionLimit, Schedule, Settle};
+use crate::asked::Asked::*;
 use crate::asked::{Asked, On};
 
 // The worked examples of document 000, its headroom, and its examples A1 to A4.
