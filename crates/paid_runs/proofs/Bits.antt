@@ -1,18 +1,17 @@
 -- Eight marks looked at as one by their bits: what each differs from 1 by, or-ed together, is 0 where a paid run of eight begins, and nowhere else.
 -- Assumes nothing.
-use mathlib.Core.Bool.{true, ◌&&◌, and_assoc, and-true}
+use mathlib.Core.Bool.{◌&&◌, and_assoc, and-true}
 use mathlib.Core.List.{List}
 use mathlib.Core.Path.{◌≡◌}
 use Prim.Native.Nat.{ℕ, suc, ◌+◌, ◌≤◌, ◌<◌}
 use native.Mathlib.Omega.{arith}
-use borrow.Author.Tests.{leb-true, eqb-true, eqb-false, ne_eqb}
+use borrow.Author.Tests.{eqb-true, eqb-false, ne_eqb}
 use lib.Bits.{bit_or, bit_xor, or_add_and, xor_add_and, and_le_r, and_mask}
 use lib.Dec.{leb, eqb, leb-zero, leb-suc-zero, leb-suc-suc}
 use lib.ListN.{length, drop, get_or}
-use lib.Seq.{drop-drop}
 use Rattle.common.proofs.Tests.{by_test}
 use Rattle.paid_runs.specs.PaidRun.{paid_run}
-use Rattle.paid_runs.proofs.PaidRun.{run_goes_on, run_stops, run_past}
+use Rattle.paid_runs.proofs.PaidRun.{run_goes_on, run_stops}
 
 -- or-ed numbers are 0 where both are
 or_none : (a b : ℕ) → eqb (bit_or a b) 0 ≡ (eqb a 0 && eqb b 0)

@@ -6,9 +6,6 @@ use Rattle.paid_runs.proofs.Eight.{past_eight}
 use Rattle.paid_runs.proofs.PaidRun.{run_ones, run_inside}
 use Rattle.paid_runs.proofs.paid_first.Goals as goal
 
-pub loop-eight-init : goal.loop-eight-init
-loop-eight-init c = record { within = omega arith; same_end = omega arith; bytes = λ i. (c.type_inv.marks i).fits }
-
 pub loop-eight-preserved : goal.loop-eight-preserved
 loop-eight-preserved c =
     let w = c.loop-eight.invariant in

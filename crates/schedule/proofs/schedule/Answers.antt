@@ -74,14 +74,6 @@ of-requires c =
     let some = eqb-false (length c.args.marks.now) 0 (sym c.if-is_empty.ensures) in
     rw e.told.terms (monthly c.args.t c.args.marks.now e.refusal some)
 
-pub fill-requires : goal.fill-requires
-fill-requires c =
-    let e = c.in_ok-examined.ensures in
-    record {
-      none_refused = rw (c.of.ensures, e.told.terms) (unrefused c.args.t c.args.marks.now [] e.refusal);
-      marks_in_bounds = c.if-out-marks.false;
-    }
-
 pub returns : goal.returns
 unfolding at_list
 returns c =
