@@ -13,7 +13,7 @@ use Rattle.casefile.specs.declared.open_line.OpenLine.{OpenLine}
 use Rattle.casefile.specs.declared.ChunkSettled.{ChunkSettled}
 use Rattle.casefile.specs.File.{listing_of}
 use Rattle.casefile.specs.Stream.{kept_bytes, open_after, written_by, taken_with, bytes_of}
-use Rattle.casefile.specs.Stream.{ChunkNumbers, numbers_of_chunk, taken_of, chunk_of, row_bytes, Calls, at_end, on_chunk}
+use Rattle.casefile.specs.Stream.{ChunkNumbers, numbers_of_chunk, taken_of, chunk_of, row_bytes, ListingCalls, at_end, on_chunk}
 use Rattle.casefile.proofs.Last.{end_writes}
 use Rattle.casefile.proofs.Chunks.{written_at_end, open_append, written_append, listing_from, written_kept, end_kept, open_kept}
 
@@ -73,7 +73,7 @@ pub all_kept : (o : OpenLine) → bytes_of o ≡ take kept_bytes (open_after (by
 unfolding open_after
 all_kept o = sym (take_all kept_bytes (bytes_of o) (omega (arith, length-take o.len o.bytes, o.fits)))
 
-calls_write : {o : OpenLine} {file written : List ℕ} → Calls o file written
+calls_write : {o : OpenLine} {file written : List ℕ} → ListingCalls o file written
     → written ≡ written_by (bytes_of o) file ++ written_at_end (open_after (bytes_of o) file)
 unfolding open_after written_by
 calls_write {o} (at_end told) = ap row_bytes told ∙ end_writes (bytes_of o)
@@ -88,6 +88,6 @@ calls_write (on_chunk o chunk out out' rest written r is calls) =
     ∙ sym (rw (written_append p part rest, open_append p part rest)))
 
 -- calls that begin with no open line write the listing of all that they work through
-pub calls_list : {o : OpenLine} {file written : List ℕ} → bytes_of o ≡ [] → Calls o file written → written ≡ listing_of file
+pub calls_list : {o : OpenLine} {file written : List ℕ} → bytes_of o ≡ [] → ListingCalls o file written → written ≡ listing_of file
 unfolding listing_of
 calls_list {o} {file} e calls = calls_write calls ∙ rw e (sym (listing_from [] file))

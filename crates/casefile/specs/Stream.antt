@@ -69,8 +69,8 @@ row_bytes (Some row) = row
 
 -- Any calls one after the other, then the call at the end: the open line before them, the bytes that they work through
 -- and the bytes that they write.
-pub data Calls : OpenLine → List ℕ → List ℕ → Type 0 where
-  at_end : {o : OpenLine} {r : Option (List ℕ)} → r ≡ end_of (bytes_of o) → Calls o [] (row_bytes r)
+pub data ListingCalls : OpenLine → List ℕ → List ℕ → Type 0 where
+  at_end : {o : OpenLine} {r : Option (List ℕ)} → r ≡ end_of (bytes_of o) → ListingCalls o [] (row_bytes r)
   on_chunk : (o : OpenLine) (chunk out out' rest written : List ℕ) (r : ChunkSettled)
-      → numbers_of_chunk r out' ≡ chunk_of (bytes_of o) chunk out → Calls r.after rest written
-      → Calls o (take r.taken chunk ++ rest) (take r.wrote out' ++ written)
+      → numbers_of_chunk r out' ≡ chunk_of (bytes_of o) chunk out → ListingCalls r.after rest written
+      → ListingCalls o (take r.taken chunk ++ rest) (take r.wrote out' ++ written)

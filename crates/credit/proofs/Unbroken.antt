@@ -15,7 +15,7 @@ use Rattle.common.specs.Choice.{pick}
 use Rattle.common.proofs.Tests.{by_test}
 use Rattle.credit.specs.Runs.{Run, ◌until◌, paid_flags, runs_in, Unbroken, InOrder}
 use Rattle.credit.specs.Credit.{sum_over_runs}
-use Rattle.credit.specs.Months.{growth, added_from}
+use Rattle.credit.specs.Months.{growth, sum_over_paid_from}
 use Rattle.credit.proofs.Months.{by_months}
 use Rattle.credit.proofs.Order.{runs_ordered, begins, meet, runs_in_order, same_runs}
 
@@ -24,15 +24,15 @@ abbrev past : ℕ → ℕ → ℕ
 past k month = 1 - (suc k - month)
 
 -- the months after month k add nothing
-none_after : (ps : List Bool) (k i : ℕ) → k < i → added_from (growth (past k)) i ps ≡ 0
-unfolding added_from
+none_after : (ps : List Bool) (k i : ℕ) → k < i → sum_over_paid_from (growth (past k)) i ps ≡ 0
+unfolding sum_over_paid_from
 none_after [] k i h = refl
 none_after (true ∷ ps) k i h = omega (arith, none_after ps k (suc i) (omega arith))
 none_after (false ∷ ps) k i h = none_after ps k (suc i) (omega arith)
 
 -- month k itself adds 1, where it is paid
-one_month : (ps : List Bool) (k i n : ℕ) → k ≡ i + n → added_from (growth (past k)) i ps ≡ pick (get_or ps n false) 1 0
-unfolding added_from
+one_month : (ps : List Bool) (k i n : ℕ) → k ≡ i + n → sum_over_paid_from (growth (past k)) i ps ≡ pick (get_or ps n false) 1 0
+unfolding sum_over_paid_from
 one_month [] k i n e = refl
 one_month (true ∷ ps) k i zero e = omega (arith, none_after ps k (suc i) (omega arith))
 one_month (true ∷ ps) k i (suc n) e = omega (arith, one_month ps k (suc i) n (omega arith))

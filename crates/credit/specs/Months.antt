@@ -8,11 +8,11 @@ abbrev pub growth : (ℕ → ℕ) → ℕ → ℕ
 growth value index = value (suc index) - value index
 
 -- the sum of a month's figure over the paid months from an index on: only a paid one adds, and each keeps its place
-unfoldable pub added_from : (ℕ → ℕ) → ℕ → List Bool → ℕ
-added_from figure index [] = 0
-added_from figure index (true ∷ ps) = figure index + added_from figure (suc index) ps
-added_from figure index (false ∷ ps) = added_from figure (suc index) ps
+unfoldable pub sum_over_paid_from : (ℕ → ℕ) → ℕ → List Bool → ℕ
+sum_over_paid_from figure index [] = 0
+sum_over_paid_from figure index (true ∷ ps) = figure index + sum_over_paid_from figure (suc index) ps
+sum_over_paid_from figure index (false ∷ ps) = sum_over_paid_from figure (suc index) ps
 
 -- the same over all paid months of the marks
-abbrev pub added : (ℕ → ℕ) → List ℕ → ℕ
-added figure marks = added_from figure 0 (paid_flags marks)
+abbrev pub sum_over_paid : (ℕ → ℕ) → List ℕ → ℕ
+sum_over_paid figure marks = sum_over_paid_from figure 0 (paid_flags marks)

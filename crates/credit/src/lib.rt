@@ -8,6 +8,7 @@ ghost use Rattle.credit.specs.SoFar.{nothing_yet, credit_at, after_mark, SoFarWi
 ghost use Rattle.credit.specs.Credit.{credit_over};
 
 use money::{Pence, PensionPence};
+use scheme::ROW_PLACES;
 
 // What the marks read so far have earned. A paid run is open from month `from`, where that is not `month` itself;
 // `sum` is what the closed runs earned.
@@ -27,7 +28,7 @@ pub fn nothing_yet() -> CreditSoFar
 
 // The credit if no mark follows: an open run ends at the present month.
 #[tactic(auto, unfolding(crate::specs::SoFar::credit_at))]
-pub fn credit_at(e: CreditSoFar, years: [u32; 21]) -> PensionPence
+pub fn credit_at(e: CreditSoFar, years: [u32; ROW_PLACES]) -> PensionPence
     requires { SoFarWithin e }
     ensures is { result ≡ pension (credit_at nearest years e) }
     ensures small { result.0 ≤ (e.month + 1) * 2 ^ 32 }
@@ -42,7 +43,7 @@ pub fn credit_at(e: CreditSoFar, years: [u32; 21]) -> PensionPence
 
 // One mark more. The years are looked at only where a run closes.
 #[tactic(auto, using(common::proofs::Tests::tests), unfolding(crate::specs::SoFar::after_mark))]
-pub fn after_mark(e: CreditSoFar, years: [u32; 21], mark: u8) -> CreditSoFar
+pub fn after_mark(e: CreditSoFar, years: [u32; ROW_PLACES], mark: u8) -> CreditSoFar
     requires { SoFarWithin e }
     ensures is { result ≡ after_mark nearest years e mark }
     ensures within { (result.month ≡ e.month + 1) × (result.sum.0 ≤ result.month * 2 ^ 32) }
@@ -61,7 +62,7 @@ pub fn after_mark(e: CreditSoFar, years: [u32; 21], mark: u8) -> CreditSoFar
 
 // The credit over the unbroken paid runs of the marks, run by run: the value at the end less the value at the start.
 #[tactic(auto, using(crate::proofs::ByRuns::ends_inside, crate::proofs::ByRuns::past_run, crate::proofs::ByRuns::past_other, crate::proofs::ByRuns::no_runs_left), unfolding(crate::specs::Credit::credit_over, crate::specs::Runs::runs_in))]
-pub fn credit_over(years: [u32; 21], marks: &[u8]) -> PensionPence
+pub fn credit_over(years: [u32; ROW_PLACES], marks: &[u8]) -> PensionPence
     requires { length marks.now < 2 ^ 31 }
     ensures { result ≡ pension (credit_over nearest years marks.now) }
 {

@@ -7,6 +7,7 @@ use native.Mathlib.Nat.{le_refl, le_antisymm}
 use native.Mathlib.Omega.{arith}
 use lib.ListN.{length, replicate}
 use Rattle.common.specs.Calendar.{months_in_year}
+use Rattle.scheme.specs.Scheme.{longest_term}
 use Rattle.rounding.specs.Rounding.{WithinHalf, Monotone}
 use Rattle.rounding.proofs.Laws.{round_whole, combined_most, combined_least}
 use Rattle.years.specs.Years.{Purchase, own_contribution, year_credits, month_value, Falling}
@@ -14,7 +15,7 @@ use Rattle.credit.specs.Runs.{◌until◌, paid_flags, runs_from, run_from, runs
 use Rattle.credit.specs.Credit.{sum_over_runs, credit_over, credit_in}
 use Rattle.years.proofs.Years.{year_none, year_within, years_most, month_most}
 use Rattle.credit.proofs.Months.{added_most}
-use Rattle.distance.specs.Distance.{Purchases, credit_by, Sound}
+use Rattle.distance.specs.Distance.{Purchases, credit_by, SoundPurchases}
 use Rattle.distance.proofs.Months.{month_year, next_rises, credit_by_months}
 use Rattle.distance.proofs.Tables.{both_tables}
 
@@ -30,7 +31,7 @@ all_paid value (suc n) h = rw (one_run n 0 1) (omega (arith, ap value {x = 1 + n
 
 module _ (round : ℕ → ℕ → ℕ) (half : WithinHalf round) where
   module _ (mono : Monotone round) where
-    table_most : (p : Purchase) → p.term ≤ 20 → Falling p → (marks : List ℕ) → length marks ≤ months_in_year * p.term
+    table_most : (p : Purchase) → p.term ≤ longest_term → Falling p → (marks : List ℕ) → length marks ≤ months_in_year * p.term
         → credit_in round p marks ≤ p.units * p.unit
     table_most p short falling marks fits =
         omega (
@@ -40,7 +41,7 @@ module _ (round : ℕ → ℕ → ℕ) (half : WithinHalf round) where
           month_most round half (year_credits round p) (p.units * p.unit) (years_most round half p short falling) (length marks),
         )
 
-    pub contract_most : (c : Purchases) → Sound c → (marks : List ℕ) → length marks ≤ months_in_year * c.lower.term
+    pub contract_most : (c : Purchases) → SoundPurchases c → (marks : List ℕ) → length marks ≤ months_in_year * c.lower.term
         → credit_by round c marks ≤ c.lower.units * c.lower.unit
     contract_most c sound marks fits =
         let u = c.lower.units * c.lower.unit in
@@ -48,7 +49,7 @@ module _ (round : ℕ → ℕ → ℕ) (half : WithinHalf round) where
         (λ p term unit units short falling. rw (← unit, ← units) (table_most p short falling marks (rw term fits))) in
         combined_most round half c.odd _ _ u (omega (arith, sound.odd_most)) most.0 most.1
 
-  table_full : (p : Purchase) → p.term ≤ 20 → Falling p → 0 < p.term → credit_in round p (replicate (months_in_year * p.term) 1) ≡ p.units * p.unit
+  table_full : (p : Purchase) → p.term ≤ longest_term → Falling p → 0 < p.term → credit_in round p (replicate (months_in_year * p.term) 1) ≡ p.units * p.unit
   unfolding credit_in credit_over
   table_full p short falling h =
       let r = p.rate p.term in
@@ -64,7 +65,7 @@ module _ (round : ℕ → ℕ → ℕ) (half : WithinHalf round) where
         round_whole round half (p.units * p.unit) r (falling.positive p.term h (le_refl p.term)),
       )
 
-  pub full_term : (c : Purchases) → Sound c → 0 < c.lower.term
+  pub full_term : (c : Purchases) → SoundPurchases c → 0 < c.lower.term
       → credit_by round c (replicate (months_in_year * c.lower.term) 1) ≡ c.lower.units * c.lower.unit
   full_term c sound h =
       let u = c.lower.units * c.lower.unit in

@@ -17,7 +17,7 @@ use Rattle.credit.specs.Runs.{paid_flags, run_count}
 use Rattle.credit.specs.Credit.{credit_in}
 use Rattle.distance.specs.Fraction.{Fraction}
 use Rattle.distance.specs.Exact.{exact_credit, exact_blend}
-use Rattle.distance.specs.Distance.{Within, half_pence, Purchases, credit_by, exactly, Sound}
+use Rattle.distance.specs.Distance.{Within, half_pence, Purchases, credit_by, exact_credit_by, SoundPurchases}
 use Rattle.distance.proofs.Near.{blend_near}
 use Rattle.distance.proofs.Table.{table_distance}
 use Rattle.distance.proofs.Tables.{both_tables}
@@ -36,9 +36,9 @@ blend_within round half m lo hi h x y l a b =
     (omega (arith, mul-le-mul_right x.den b.above), omega (arith, mul-le-mul_right x.den b.below)) in
     record { positive = mul-pos (mul-pos a.positive b.positive) (omega arith); above = omega arith; below = omega arith }
 
-pub distance : (round : ℕ → ℕ → ℕ) → WithinHalf round → Monotone round → (c : Purchases) → Sound c
+pub distance : (round : ℕ → ℕ → ℕ) → WithinHalf round → Monotone round → (c : Purchases) → SoundPurchases c
     → (marks : List ℕ) → length marks ≤ months_in_year * c.lower.term → (rest : List Bool) → paid_flags marks ≡ true ∷ rest
-    → Within (credit_by round c marks) (exactly c marks) (half_pence c.odd (run_count marks))
+    → Within (credit_by round c marks) (exact_credit_by c marks) (half_pence c.odd (run_count marks))
 distance round half mono c sound marks fits rest begins =
     let h = 2 * (2 * run_count marks - 1) in
     let near = both_tables c sound (λ p. Within (credit_in round p marks) (exact_credit p marks) h)

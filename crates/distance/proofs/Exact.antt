@@ -9,7 +9,7 @@ use native.Mathlib.Omega.{arith}
 use lib.ListN.{length}
 use Rattle.common.specs.Calendar.{months_in_year}
 use Rattle.years.specs.Years.{Purchase, own_contribution, year_credit, Falling}
-use Rattle.credit.specs.Months.{added_from}
+use Rattle.credit.specs.Months.{sum_over_paid_from}
 use Rattle.years.proofs.Years.{year_none, year_within}
 use Rattle.distance.specs.Exact.{exact_year, exact_month, exact_from}
 use Rattle.distance.proofs.Denominator.{IsOver, none_is, plus_is, minus_is, divided_is, product, product_positive, divides_product}
@@ -72,8 +72,8 @@ module _ (p : Purchase) (falling : Falling p) where
   over_step i h = omega (arith, numerator_step (exact_over p) i, over_rises (i / 12) (omega arith))
 
   pub exact_is : (ps : List Bool) (i : ℕ) → i + length ps ≤ months_in_year * p.term
-      → IsOver (exact_from p i ps) (added_from (month_over p) i ps) (12 * denominator p)
-  unfolding exact_from exact_month added_from
+      → IsOver (exact_from p i ps) (sum_over_paid_from (month_over p) i ps) (12 * denominator p)
+  unfolding exact_from exact_month sum_over_paid_from
   exact_is [] i h = none_is (12 * denominator p)
   exact_is (true ∷ ps) i h =
       plus_is (divided_is 12 (omega arith) (minus_is (year_is (suc (i / 12)) (omega arith)) (year_is (i / 12) (omega arith))))

@@ -7,16 +7,17 @@ use native.Mathlib.Nat.{mul-le-mul_right}
 use native.Mathlib.Omega.{arith}
 use lib.ListN.{length}
 use Rattle.common.specs.Calendar.{months_in_year}
+use Rattle.scheme.specs.Scheme.{longest_term}
 use Rattle.rounding.specs.Rounding.{WithinHalf, Monotone}
 use Rattle.rounding.proofs.Laws.{blended_none}
 use Rattle.years.specs.Years.{Purchase, year_credit, year_credits, month_numerator, month_value, Falling}
 use Rattle.credit.specs.Credit.{credit_over, credit_in}
-use Rattle.credit.specs.Months.{growth, added}
+use Rattle.credit.specs.Months.{growth, sum_over_paid}
 use Rattle.years.proofs.Years.{row_year, year_rises}
 use Rattle.credit.proofs.Months.{by_months}
 use Rattle.distance.proofs.Numerator.{numerator_by, numerator_rises}
 
-module _ (round : ℕ → ℕ → ℕ) (p : Purchase) (short : p.term ≤ 20) where
+module _ (round : ℕ → ℕ → ℕ) (p : Purchase) (short : p.term ≤ longest_term) where
   -- its numerator goes by the years
   numerator_is : (i : ℕ) → month_numerator (year_credits round p) i ≡ numerator_by (year_credit round p) i
   unfolding month_numerator
@@ -26,7 +27,7 @@ module _ (round : ℕ → ℕ → ℕ) (p : Purchase) (short : p.term ≤ 20) wh
   unfolding month_value
   by_numerator i = ap (λ (n : ℕ). round n 12) (numerator_is i)
 
-module _ (round : ℕ → ℕ → ℕ) (half : WithinHalf round) (p : Purchase) (short : p.term ≤ 20) where
+module _ (round : ℕ → ℕ → ℕ) (half : WithinHalf round) (p : Purchase) (short : p.term ≤ longest_term) where
   -- the value at the end of a whole year
   pub month_year : (n : ℕ) → month_value round (year_credits round p) (12 * n) ≡ year_credit round p n
   month_year n =
@@ -34,7 +35,7 @@ module _ (round : ℕ → ℕ → ℕ) (half : WithinHalf round) (p : Purchase) 
       let r : 12 * n % 12 ≡ 0 = omega arith in
       by_numerator round p short (12 * n) ∙ rw (q, r) (blended_none round half (year_credit round p n) (year_credit round p (suc n)))
 
-module _ (round : ℕ → ℕ → ℕ) (mono : Monotone round) (p : Purchase) (short : p.term ≤ 20) (falling : Falling p) where
+module _ (round : ℕ → ℕ → ℕ) (mono : Monotone round) (p : Purchase) (short : p.term ≤ longest_term) (falling : Falling p) where
   -- the month value never falls within the term
   pub month_rises : (a b : ℕ) → a ≤ b → b ≤ months_in_year * p.term
       → month_value round (year_credits round p) a ≤ month_value round (year_credits round p) b
@@ -50,6 +51,6 @@ module _ (round : ℕ → ℕ → ℕ) (mono : Monotone round) (p : Purchase) (s
 
   -- the credit is the sum, over the paid months, of the value after the month less the value before it
   pub credit_by_months : (marks : List ℕ) → length marks ≤ months_in_year * p.term
-      → credit_in round p marks ≡ added (growth (month_value round (year_credits round p))) marks
+      → credit_in round p marks ≡ sum_over_paid (growth (month_value round (year_credits round p))) marks
   unfolding credit_in credit_over
   credit_by_months marks fits = by_months (month_value round (year_credits round p)) marks (λ i h. next_rises i (omega arith))

@@ -10,7 +10,7 @@ use lib.ListN.{length}
 use Rattle.rounding.specs.Nearest.{blend_by}
 use Rattle.rounding.specs.Rounding.{WithinHalf}
 use Rattle.credit.specs.Runs.{starts_after}
-use Rattle.credit.specs.Months.{growth, added_from}
+use Rattle.credit.specs.Months.{growth, sum_over_paid_from}
 
 -- x and y are at most d apart
 abbrev pub Close : ℕ → ℕ → ℕ → Type 0
@@ -42,10 +42,10 @@ module _ (v height figure : ℕ → ℕ) (D N : ℕ) (up : (i : ℕ) → i < N �
   grown i h = omega (arith, ap (λ t. D * t) (sub-add_cancel (up i h)))
 
   mutual
-    unfolding starts_after added_from
+    unfolding starts_after sum_over_paid_from
 
     near_outside : (ps : List Bool) (i : ℕ) → i + length ps ≤ N
-        → Close (D * added_from (growth v) i ps) (added_from figure i ps) (starts_after false ps * (2 * D))
+        → Close (D * sum_over_paid_from (growth v) i ps) (sum_over_paid_from figure i ps) (starts_after false ps * (2 * D))
     near_outside [] i h = omega arith
     near_outside (true ∷ ps) i h =
         omega (arith, near_inside ps (suc i) (omega arith), near i (omega arith), step i (omega arith), grown i (omega arith))
@@ -53,12 +53,12 @@ module _ (v height figure : ℕ → ℕ) (D N : ℕ) (up : (i : ℕ) → i < N �
 
     -- inside a run, with all that value and height have come to
     near_inside : (ps : List Bool) (i : ℕ) → i + length ps ≤ N
-        → Close (D * (v i + added_from (growth v) i ps)) (height i + added_from figure i ps) (D + starts_after true ps * (2 * D))
+        → Close (D * (v i + sum_over_paid_from (growth v) i ps)) (height i + sum_over_paid_from figure i ps) (D + starts_after true ps * (2 * D))
     near_inside [] i h = omega (arith, near i (omega arith))
     near_inside (true ∷ ps) i h = omega (arith, near_inside ps (suc i) (omega arith), step i (omega arith), grown i (omega arith))
     near_inside (false ∷ ps) i h = omega (arith, near i (omega arith), near_outside ps (suc i) (omega arith))
 
   -- A run that begins at month 0, where value and height are both 0, is not off at that end.
   pub near_first : v 0 ≡ 0 → height 0 ≡ 0 → (ps : List Bool) → length ps ≤ N
-      → Close (D * added_from (growth v) 0 ps) (added_from figure 0 ps) (D + starts_after true ps * (2 * D))
+      → Close (D * sum_over_paid_from (growth v) 0 ps) (sum_over_paid_from figure 0 ps) (D + starts_after true ps * (2 * D))
   near_first v0 h0 ps h = omega (arith, near_inside ps 0 (omega arith), ap (λ t. D * t) v0)

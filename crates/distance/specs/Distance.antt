@@ -3,6 +3,7 @@
 use Rattle.std.specs.Prelude.{List, ◌≡◌, ℕ, ◌+◌, ◌*◌, ◌-◌, ◌≤◌, ◌<◌, eqb}
 use Rattle.common.specs.Choice.{pick}
 use Rattle.common.specs.Calendar.{months_in_year}
+use Rattle.scheme.specs.Scheme.{longest_term}
 use Rattle.rounding.specs.Nearest.{combine_by}
 use Rattle.years.specs.Years.{Purchase, Falling}
 use Rattle.credit.specs.Credit.{credit_in}
@@ -31,15 +32,15 @@ abbrev pub credit_by : (round : ℕ → ℕ → ℕ) → Purchases → (marks : 
 credit_by round c marks = combine_by round c.odd (credit_in round c.lower marks) (credit_in round c.upper marks)
 
 -- The exact credit: the same with nothing rounded.
-abbrev pub exactly : Purchases → (marks : List ℕ) → Fraction
-exactly c marks =
+abbrev pub exact_credit_by : Purchases → (marks : List ℕ) → Fraction
+exact_credit_by c marks =
     pick (eqb c.odd 0) (exact_credit c.lower marks)
     (exact_blend c.odd (exact_credit c.lower marks) (exact_credit c.upper marks))
 
--- What the theorems ask: odd months below 12, a term that the row of 21 holds, falling rates, the same term, unit and units in both tables.
-pub record Sound (c : Purchases) : Type 0 where
+-- What the theorems ask: odd months below 12, a term that is not too long, falling rates, the same term, unit and units in both tables.
+pub record SoundPurchases (c : Purchases) : Type 0 where
   pub odd_most : c.odd < months_in_year
-  pub term_most : c.lower.term ≤ 20
+  pub term_most : c.lower.term ≤ longest_term
   pub lower_falls : Falling c.lower
   pub upper_falls : 0 < c.odd → Falling c.upper
   pub same_term : c.upper.term ≡ c.lower.term

@@ -12,7 +12,7 @@ use Rattle.common.specs.Choice.{pick}
 use Rattle.terms.specs.declared.Terms.{Terms}
 use Rattle.terms.specs.Rate.{table_rate}
 use Rattle.terms.specs.Rules.{missing_upper, no_rate, no_upper_rate}
-use Rattle.terms.specs.Halves.{rate_refusal}
+use Rattle.terms.specs.RefusalParts.{rate_refusal}
 use Rattle.election.specs.LookedUp.{if_printed}
 use Rattle.election.proofs.Laws.{rate_past}
 

@@ -1,14 +1,13 @@
 -- Document 01, "From rate to contribution and credit": the contribution of terms.
 -- Assumes nothing.
-use Rattle.std.specs.Prelude.{ℕ, ◌+◌, ◌*◌, ◌/◌}
+use Rattle.std.specs.Prelude.{ℕ, ◌+◌, ◌*◌}
 use Rattle.rounding.specs.Nearest.{combine}
-use Rattle.scheme.specs.Scheme.{step_pounds}
 use Rattle.terms.specs.declared.Terms.{Terms}
-use Rattle.terms.specs.Rate.{table_rate}
+use Rattle.terms.specs.Rate.{units_of, table_rate}
 
--- a table's own contribution: (amount ÷ 250) × rate
+-- a table's own contribution: units × rate
 unfoldable pub contribution_at : Terms → (rate : ℕ) → ℕ
-contribution_at t rate = t.amount / step_pounds * rate
+contribution_at t rate = units_of t * rate
 
 -- that of the table of a whole pension age
 unfoldable pub contribution_in : Terms → (pension_age : ℕ) → ℕ

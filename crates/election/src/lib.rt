@@ -7,7 +7,7 @@ ghost use Rattle.refusals.specs.Parts.{refusal_in};
 ghost use Rattle.money.specs.Contribution.{contribution};
 ghost use Rattle.terms.specs.Rate.{table_rate};
 ghost use Rattle.terms.specs.Rules.{wrong_amount, above_cap, refusal_of};
-ghost use Rattle.terms.specs.Halves.{rate_refusal, amount_refusal};
+ghost use Rattle.terms.specs.RefusalParts.{rate_refusal, amount_refusal};
 ghost use Rattle.election.specs.Price.{contribution_of};
 ghost use Rattle.election.specs.LookedUp.{if_printed, rates_of};
 ghost use Rattle.election.specs.TermsAccepted.{TermsAccepted};
@@ -84,7 +84,7 @@ impl TableRates {
         requires { (t.amount ≤ cap_pounds) × (self ≡ rates_of t) }
         ensures { result ≡ contribution (contribution_of t) }
     {
-        let units = t.amount / scheme::STEP;
+        let units = t.units();
         let own = ContributionPence::of_units(units, self.lower);
         match self.upper {
             Some(rate) => own.blend(ContributionPence::of_units(units, rate), t.pnpa_months),
@@ -124,7 +124,7 @@ impl Election {
 }
 
 // The rules on amount and cap, 7 and 8, of terms beside an existing pension: a member has one and many requests, so no type holds both.
-#[tactic(auto, unfolding(terms::specs::Halves::amount_refusal))]
+#[tactic(auto, unfolding(terms::specs::RefusalParts::amount_refusal))]
 fn check_amount(t: Terms, existing: PensionPence) -> Result<(), Refusal>
     ensures { refusal_in result ≡ amount_refusal t existing.0 }
 {

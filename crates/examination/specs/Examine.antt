@@ -10,7 +10,7 @@ use Rattle.examination.specs.declared.Examined.{Examined}
 
 -- what is known of an examination e of terms and marks that are not refused; its election holds that the terms are accepted, with the
 -- rates that they go by
-pub record ExaminedTold (t : Terms) (marks : List ℕ) (e : Examined) : Type 0 where
+pub record ExaminationOf (t : Terms) (marks : List ℕ) (e : Examined) : Type 0 where
   pub terms : e.election.terms ≡ t
   pub status : status_number e.status ≡ status_of open_months t.term marks
   pub paid : e.paid_months ≡ paid_months marks

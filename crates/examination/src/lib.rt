@@ -4,7 +4,7 @@
 ghost use Rattle.std.specs.Prelude.{◌≡◌, IfOk};
 ghost use Rattle.refusals.specs.Places.{refused_in};
 ghost use Rattle.examination.specs.Refusal.{settle_refusal};
-ghost use Rattle.examination.specs.Examine.{ExaminedTold};
+ghost use Rattle.examination.specs.Examine.{ExaminationOf};
 
 use election::Election;
 use marks::Status;
@@ -24,7 +24,7 @@ pub struct Examined {
 #[tactic(auto, using(common::proofs::Tests::tests, refusals::proofs::Numbers::refusal_positive, crate::proofs::Laws::refused_by_terms, crate::proofs::Laws::refused_by_marks, marks::proofs::Term::marks_number, marks::proofs::Term::marks_place))]
 pub fn examine(t: Terms, marks: &[u8]) -> Result<Examined, Refused>
     ensures refusal { refused_in result ≡ settle_refusal t marks.now }
-    ensures told { IfOk result (λ e. ExaminedTold t marks.now e) }
+    ensures told { IfOk result (λ e. ExaminationOf t marks.now e) }
 {
     let election = Election::new(t, PensionPence::none())?;
     let reading = marks::read_marks(marks, scheme::OPEN_MONTHS, t.term)?;

@@ -15,7 +15,7 @@ pub struct On(
 );
 
 // A mark and its number of months.
-pub type Run = (u8, usize);
+pub type MarkRun = (u8, usize);
 
 #[derive(Clone, Copy)]
 pub enum Asked {
@@ -32,11 +32,11 @@ pub enum Asked {
     // terms, existing pension in pence, last quote number
     Quote(On, u64, u32),
     // terms, runs of marks
-    Settle(On, &'static [Run]),
+    Settle(On, &'static [MarkRun]),
     // terms, runs of marks, entries of the lent list
-    Schedule(On, &'static [Run], usize),
+    Schedule(On, &'static [MarkRun], usize),
     // terms, runs of marks, the age now, the increase in thousandths
-    PayOff(On, &'static [Run], u32, u32),
+    PayOff(On, &'static [MarkRun], u32, u32),
 }
 
 impl From<On> for Terms {
@@ -66,11 +66,11 @@ const RUNS_SHOWN: usize = 4;
 
 // Runs of marks, as a line shows them.
 #[derive(Clone, Copy)]
-pub struct Runs<'a>(pub &'a [Run]);
+pub struct MarkRuns<'a>(pub &'a [MarkRun]);
 
-impl fmt::Display for Runs<'_> {
+impl fmt::Display for MarkRuns<'_> {
     fn fmt<W: fmt::Write>(&self, f: &mut fmt::Formatter<W>) -> fmt::Result {
-        let Runs(runs) = *self;
+        let MarkRuns(runs) = *self;
         for i in 0..RUNS_SHOWN {
             let (mark, months) = runs.get(i).copied().unwrap_or((0, 0));
             write!(f, " {mark} {months}")?;

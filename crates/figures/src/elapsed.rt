@@ -2,7 +2,7 @@
 ghost use Rattle.std.specs.Prelude.{◌≡◌, ◌≤◌, [], List, ℕ, take};
 ghost use Rattle.figures.specs.Elapsed.{with_run, row_marks};
 
-use crate::asked::Run;
+use crate::asked::MarkRun;
 use std::marker::Model;
 
 // More months than any contract has, so that too many can be asked.
@@ -34,7 +34,7 @@ impl Elapsed {
     }
 
     // One run more, as far as there is room.
-    fn push_run(&mut self, run: Run)
+    fn push_run(&mut self, run: MarkRun)
         ensures { self.new ≡ with_run self.old run }
     {
         let (mark, months) = run;
@@ -44,7 +44,7 @@ impl Elapsed {
     }
 
     // The marks of runs, one after another.
-    pub fn of_runs(runs: &[Run]) -> Self
+    pub fn of_runs(runs: &[MarkRun]) -> Self
         ensures { result ≡ row_marks runs.now }
     {
         let mut elapsed = Elapsed::none();

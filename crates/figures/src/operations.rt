@@ -1,6 +1,6 @@
 // A line for each row of a table: what is asked, and what the part gives for it. Answers are taken apart here into the columns of a line,
 // which are not those that a host stores: the register, a schedule and the spelling of a refusal differ.
-use crate::asked::{Asked, On, Run, Runs};
+use crate::asked::{Asked, On, MarkRun, MarkRuns};
 use crate::elapsed::Elapsed;
 use money::PensionPence;
 use pay_off::PayOff;
@@ -38,7 +38,7 @@ fn print_rate(
 }
 
 // Refusal, contribution, number.
-fn quote_numbers(answer: Result<QuoteMade, Refusal>) -> (u32, u64, u32) {
+fn quote_columns(answer: Result<QuoteMade, Refusal>) -> (u32, u64, u32) {
     match answer {
         Err(refusal) => (refusal.number(), 0, 0),
         Ok(made) => (0, made.contribution.0, made.number),
@@ -47,7 +47,7 @@ fn quote_numbers(answer: Result<QuoteMade, Refusal>) -> (u32, u64, u32) {
 
 fn print_quote(rt: &impl Print, on: On, existing: u64, last: u32) -> io::Result<()> {
     let quoted = quotes::quote(Terms::from(on), PensionPence(existing), Register { last });
-    let (refusal, contribution, number) = quote_numbers(quoted.answer);
+    let (refusal, contribution, number) = quote_columns(quoted.answer);
     let register = quoted.register.last;
     print!(rt; "quote {on} {existing} {last}")?;
     print!(rt;
@@ -55,10 +55,10 @@ fn print_quote(rt: &impl Print, on: On, existing: u64, last: u32) -> io::Result<
     )
 }
 
-fn print_settle(rt: &impl Print, on: On, runs: &[Run]) -> io::Result<()> {
+fn print_settle(rt: &impl Print, on: On, runs: &[MarkRun]) -> io::Result<()> {
     let elapsed = Elapsed::of_runs(runs);
     let n = SixNumbers::from(settlement::settle(Terms::from(on), elapsed.as_slice()));
-    let asked = Runs(runs);
+    let asked = MarkRuns(runs);
     print!(rt; "settle {on}{asked}")?;
     print!(rt;
         " is refusal {} place {} contribution {}",
@@ -87,7 +87,7 @@ fn print_entries(rt: &impl Print, list: &[u32]) -> io::Result<()> {
 
 // Each entry of the lent list holds 7 before the call, and the whole list is printed after it. A row that asks for more than 20
 // entries prints nothing.
-fn print_schedule(rt: &impl Print, on: On, runs: &[Run], entries: usize) -> io::Result<()> {
+fn print_schedule(rt: &impl Print, on: On, runs: &[MarkRun], entries: usize) -> io::Result<()> {
     let mut list = [7u32; 20];
     let Some(lent) = list.get_mut(..entries) else {
         return Ok(());
@@ -95,13 +95,13 @@ fn print_schedule(rt: &impl Print, on: On, runs: &[Run], entries: usize) -> io::
     let elapsed = Elapsed::of_runs(runs);
     let answer = schedule::schedule(Terms::from(on), elapsed.as_slice(), lent);
     let (refusal, place) = schedule_numbers(answer);
-    let asked = Runs(runs);
+    let asked = MarkRuns(runs);
     print!(rt; "schedule {on}{asked} {entries} is refusal {refusal} place {place} entries")?;
     print_entries(rt, lent)
 }
 
 // Refusal, place, remaining and increased pension, cost.
-fn pay_off_numbers(answer: Result<PayOff, Refused>) -> (u32, usize, u64, u64, u64) {
+fn pay_off_columns(answer: Result<PayOff, Refused>) -> (u32, usize, u64, u64, u64) {
     match answer {
         Err(e) => (e.refusal.number(), e.place, 0, 0, 0),
         Ok(p) => (0, 0, p.remaining.0, p.increased.0, p.cost.0),
@@ -111,14 +111,14 @@ fn pay_off_numbers(answer: Result<PayOff, Refused>) -> (u32, usize, u64, u64, u6
 fn print_pay_off(
     rt: &impl Print,
     on: On,
-    runs: &[Run],
+    runs: &[MarkRun],
     age_now: u32,
     increase: u32,
 ) -> io::Result<()> {
     let elapsed = Elapsed::of_runs(runs);
     let answer = pay_off::pay_off(Terms::from(on), elapsed.as_slice(), age_now, increase);
-    let (refusal, place, remaining, increased, cost) = pay_off_numbers(answer);
-    let asked = Runs(runs);
+    let (refusal, place, remaining, increased, cost) = pay_off_columns(answer);
+    let asked = MarkRuns(runs);
     print!(rt; "pay-off {on}{asked} {age_now} {increase}")?;
     print!(rt;
         " is refusal {refusal} place {place} remaining {remaining} increased {increased} cost {cost}"
@@ -126,7 +126,7 @@ fn print_pay_off(
 }
 
 // Refusal, age, the B of three candidates.
-fn reduction_numbers(answer: Result<ReductionLimit, Refusal>) -> (u32, u32, [u64; 3]) {
+fn reduction_columns(answer: Result<ReductionLimit, Refusal>) -> (u32, u32, [u64; 3]) {
     match answer {
         Err(refusal) => (refusal.number(), 0, [0, 0, 0]),
         Ok(limit) => {
@@ -137,7 +137,7 @@ fn reduction_numbers(answer: Result<ReductionLimit, Refusal>) -> (u32, u32, [u64
 }
 
 fn print_reduction_limit(rt: &impl Print, a: Application) -> io::Result<()> {
-    let (refusal, age, [first, second, third]) = reduction_numbers(reduction::reduction_limit(a));
+    let (refusal, age, [first, second, third]) = reduction_columns(reduction::reduction_limit(a));
     print!(rt; "reduction-limit {} {} {}", a.npa, a.age, a.pay)?;
     let [erf_first, erf_second, erf_third] = a.erfs;
     print!(rt;

@@ -8,7 +8,7 @@ use borrow.Author.Tests.{lt-ltb, le-ltb}
 use lib.ListN.{length, get_or, drop}
 use Rattle.number_bytes.specs.Stored.{stored_in}
 use Rattle.number_bytes.proofs.Writing.{stored_front}
-use Rattle.scheme.specs.Bounds.{last_of_quote, last_of_settle}
+use Rattle.scheme.specs.Bounds.{last_quote_refusal, last_settle_refusal}
 use Rattle.terms.specs.declared.Terms.{Terms}
 use Rattle.quotes.specs.Quote.{QuoteNumbers, quote_of}
 use Rattle.quotes.proofs.Bounds.{quote_bounds}
@@ -42,10 +42,10 @@ stored_first_most : {A : Type 0} (refusal : A → ℕ) (most : ℕ) {n m : A} {n
 stored_first_most refusal most is e h = omega (arith, ap (λ (l : List ℕ). get_or l 0 0) e, ap refusal is)
 
 pub quote_value_most : (t : Terms) (existing last : ℕ) {n : QuoteNumbers} {numbers : List ℕ} → n ≡ quote_of t existing last
-    → numbers ≡ n.refusal ∷ n.contribution ∷ n.next ∷ [] → get_or numbers 0 0 ≤ last_of_quote
-quote_value_most t existing last is e = stored_first_most (λ (n : QuoteNumbers). n.refusal) last_of_quote is e (quote_bounds t existing last).refusal_most
+    → numbers ≡ n.refusal ∷ n.contribution ∷ n.next ∷ [] → get_or numbers 0 0 ≤ last_quote_refusal
+quote_value_most t existing last is e = stored_first_most (λ (n : QuoteNumbers). n.refusal) last_quote_refusal is e (quote_bounds t existing last).refusal_most
 
-pub settle_value_most : (t : Terms) (marks : List ℕ) {n : SettleNumbers} → n ≡ settle_of t marks → n.refusal ≤ last_of_settle
+pub settle_value_most : (t : Terms) (marks : List ℕ) {n : SettleNumbers} → n ≡ settle_of t marks → n.refusal ≤ last_settle_refusal
 settle_value_most t marks is = omega (arith, ap (λ (n : SettleNumbers). n.refusal) is, (settle_bounds t marks).refusal_most)
 
 pub pay_off_value_most : (t : Terms) (marks : List ℕ) (age_now increase : ℕ) {n : PayOffNumbers} {numbers : List ℕ}

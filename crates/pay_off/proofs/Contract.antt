@@ -12,7 +12,7 @@ use Rattle.common.proofs.Tests.{or_false}
 use Rattle.terms.specs.declared.Terms.{Terms}
 use Rattle.terms.specs.Rate.{rate_for, table_rate}
 use Rattle.terms.specs.Rules.{no_rate, no_upper_rate}
-use Rattle.terms.specs.Halves.{rate_refusal}
+use Rattle.terms.specs.RefusalParts.{rate_refusal}
 use Rattle.terms.proofs.Laws.{lump_rate}
 use Rattle.election.specs.declared.TableRates.{TableRates}
 use Rattle.election.specs.LookedUp.{rates_of}

@@ -10,8 +10,8 @@ use Rattle.terms.specs.declared.Terms.{Terms}
 use Rattle.marks.specs.Numbers.{status_number}
 use Rattle.examination.specs.declared.Examined.{Examined}
 use Rattle.examination.specs.Refusal.{settle_refusal}
-use Rattle.examination.specs.Examine.{ExaminedTold}
-use Rattle.examination.proofs.Told.{refusal_stands, unrefused}
+use Rattle.examination.specs.Examine.{ExaminationOf}
+use Rattle.examination.proofs.Unrefused.{refusal_stands, unrefused}
 use Rattle.settlement.specs.Settle.{SettleNumbers, credit_at_status, settle_of}
 use Rattle.settlement.proofs.Laws.{settle_refused, settle_settled, settle_refusal_lem}
 
@@ -31,7 +31,7 @@ module _ (t : Terms) (ms : List ℕ) where
     pub settles : (settle_of t ms).refusal ≡ 0
     settles = settle_refusal_lem t ms ∙ unrefused t ms none
 
-    module _ {e : Examined} (told : ExaminedTold t ms e) where
+    module _ {e : Examined} (told : ExaminationOf t ms e) where
       pub same_status : status_number e.status ≡ (settle_of t ms).status
       same_status = told.status ∙ sym (ap (λ (n : SettleNumbers). n.status) (settle_settled t ms (unrefused t ms none)))
 

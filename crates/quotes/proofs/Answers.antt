@@ -11,18 +11,18 @@ use Rattle.common.proofs.Choice.{not_first, chosen_number, both_pass}
 use Rattle.terms.specs.declared.Terms.{Terms}
 use Rattle.terms.specs.Rules.{refusal_of}
 use Rattle.election.proofs.Laws.{terms_accepted, contribution_least}
-use Rattle.quotes.specs.Quote.{QuoteNumbers, last_number, quote_refusal, quote_of}
+use Rattle.quotes.specs.Quote.{QuoteNumbers, last_quote_number, quote_refusal, quote_of}
 
 module _ (t : Terms) (existing last : ℕ) where
   quote_refusal_lem : (quote_of t existing last).refusal ≡ quote_refusal t existing last
   unfolding quote_of
   quote_refusal_lem = chosen_number (λ (n : QuoteNumbers). n.refusal) (quote_refusal t existing last) _ _ refl refl
 
-  pub quote_passes : quote_refusal t existing last ≡ 0 → (refusal_of t existing ≡ 0) × (last < last_number)
+  pub quote_passes : quote_refusal t existing last ≡ 0 → (refusal_of t existing ≡ 0) × (last < last_quote_number)
   unfolding quote_refusal
   quote_passes z =
-      let both = both_pass (refusal_of t existing) (pick (leb last_number last) 9 0) z in
-      let number = not_first (λ (n : ℕ). n ≡ 0) (leb last_number last) 9 0 (λ nine. omega arith) both.1 in
+      let both = both_pass (refusal_of t existing) (pick (leb last_quote_number last) 9 0) z in
+      let number = not_first (λ (n : ℕ). n ≡ 0) (leb last_quote_number last) 9 0 (λ nine. omega arith) both.1 in
       (both.0, leb-false _ _ number.0)
 
   pub quote_contribution_least : (quote_of t existing last).refusal ≡ 0 → 1 ≤ (quote_of t existing last).contribution

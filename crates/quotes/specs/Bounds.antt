@@ -1,11 +1,11 @@
 -- What bounds the numbers of a quote.
 -- Assumes nothing.
 use Rattle.std.specs.Prelude.{◌≤◌}
-use Rattle.scheme.specs.Bounds.{most_contribution, last_of_quote}
-use Rattle.quotes.specs.Quote.{QuoteNumbers, last_number}
+use Rattle.scheme.specs.Bounds.{most_contribution, last_quote_refusal}
+use Rattle.quotes.specs.Quote.{QuoteNumbers, last_quote_number}
 
 -- no number of a quote is larger
 pub record QuoteBounds (n : QuoteNumbers) : Type 0 where
-  pub refusal_most : n.refusal ≤ last_of_quote
+  pub refusal_most : n.refusal ≤ last_quote_refusal
   pub contribution_most : n.contribution ≤ most_contribution
-  pub next_most : n.next ≤ last_number
+  pub next_most : n.next ≤ last_quote_number

@@ -19,12 +19,12 @@ pub record QuoteNumbers : Type 0 where
   pub register : ℕ
 
 -- the last number that a register gives out
-abbrev pub last_number : ℕ
-last_number = 999999
+abbrev pub last_quote_number : ℕ
+last_quote_number = 999999
 
 -- 1 to 8 as the terms are refused; then 9: no number is left
 unfoldable pub quote_refusal : Terms → (existing last : ℕ) → ℕ
-quote_refusal t existing last = first_of (refusal_of t existing) (pick (leb last_number last) 9 0)
+quote_refusal t existing last = first_of (refusal_of t existing) (pick (leb last_quote_number last) 9 0)
 
 -- A refusal gives its number, zeros and the register unchanged; success the contribution and the last number plus 1,
 -- which the register then holds.

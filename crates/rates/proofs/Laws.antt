@@ -8,18 +8,18 @@ use native.Mathlib.Decide.{le_ind}
 use native.Mathlib.Omega.{arith}
 use Rattle.scheme.specs.Scheme.{step_pence, first_age, print_margin}
 use Rattle.scheme.specs.Bounds.{most_monthly_rate, most_lump_sum_rate}
-use Rattle.rates.specs.Rates.{table_of, rate_of, lump_rate_of, Printed, LumpPrinted}
+use Rattle.rates.specs.Rates.{table_of, rate_of, lump_rate_of, MonthlyPrinted, LumpPrinted}
 use Rattle.rates.proofs.Positive.{by_positive}
 use Rattle.rates.proofs.Monthly.{any_printed, any_shown, any_most, any_tens, any_falls, any_rises}
 use Rattle.rates.proofs.Passing.{tables_passing}
 use Rattle.rates.proofs.LumpSum as lump
 
 -- the print rule of the monthly tables, both ways
-pub rate_printed : (o p age term : ℕ) → 0 < rate_of o p age term → Printed first_age print_margin o p age term
+pub rate_printed : (o p age term : ℕ) → 0 < rate_of o p age term → MonthlyPrinted first_age print_margin o p age term
 unfolding rate_of
 rate_printed = any_printed first_age print_margin most_monthly_rate table_of tables_passing
 
-pub rate_shown : (o p age term : ℕ) → Printed first_age print_margin o p age term → 0 < rate_of o p age term
+pub rate_shown : (o p age term : ℕ) → MonthlyPrinted first_age print_margin o p age term → 0 < rate_of o p age term
 unfolding rate_of
 rate_shown = any_shown first_age print_margin most_monthly_rate table_of tables_passing
 

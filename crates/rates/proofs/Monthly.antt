@@ -15,7 +15,7 @@ use lib.Seq.{get_or-drop}
 use Rattle.common.proofs.Tests.{and_left, and_right}
 use Rattle.common.proofs.Computed.{Comparison, always, given, AllTrue, every, every_at, all, all_at}
 use Rattle.scheme.specs.Scheme.{longest_term}
-use Rattle.rates.specs.Rates.{last_age, rate_by, Printed}
+use Rattle.rates.specs.Rates.{last_age, rate_by, MonthlyPrinted}
 use Rattle.rates.proofs.Entries.{Placed, place_in, entry_at, entry_placed, entry_none}
 use Rattle.rates.proofs.Positive.{by_positive}
 use Rattle.rates.proofs.Tables.{Known}
@@ -131,14 +131,14 @@ module _ (first margin most : ℕ) (tables : ℕ → ℕ → List ℕ) (good : P
   rules_there o p age term h = entry_rules o p age term (rate_known o p age term h) (rate_placed first margin tables o p age term h)
 
   -- the print rule, both ways
-  pub any_printed : (o p age term : ℕ) → 0 < rate_by first margin tables o p age term → Printed first margin o p age term
+  pub any_printed : (o p age term : ℕ) → 0 < rate_by first margin tables o p age term → MonthlyPrinted first margin o p age term
   any_printed o p age term h =
       let known = rate_known o p age term h in
       let placed = rate_placed first margin tables o p age term h in
       let before = (rules_there o p age term h).before h in
       omega arith
 
-  pub any_shown : (o p age term : ℕ) → Printed first margin o p age term → 0 < rate_by first margin tables o p age term
+  pub any_shown : (o p age term : ℕ) → MonthlyPrinted first margin o p age term → 0 < rate_by first margin tables o p age term
   any_shown o p age term r = (entry_rules o p age term (omega arith) (omega (arith, good.apart))).there (omega (arith, good.apart))
 
   -- the greatest rate, and tens of pence
@@ -164,14 +164,14 @@ module _ (first margin most : ℕ) (tables : ℕ → ℕ → List ℕ) (good : P
       → rate_by first margin tables o p a term ≤ rate_by first margin tables o p b term
   any_rises o p a b term le last =
       by_positive (λ x. x ≤ rate_by first margin tables o p b term) _ zero-le λ first-there.
-      le_ind (λ (n : ℕ). Printed first margin o p n term → rate_by first margin tables o p a term ≤ rate_by first margin tables o p n term)
+      le_ind (λ (n : ℕ). MonthlyPrinted first margin o p n term → rate_by first margin tables o p a term ≤ rate_by first margin tables o p n term)
       (λ r. le_refl _)
       (λ m h above r. let here = between m h first-there r in le_trans (above here) (step m here r)) b le (any_printed o p b term last)
     where
-      between : (m : ℕ) → a ≤ m → 0 < rate_by first margin tables o p a term → Printed first margin o p (suc m) term
-          → Printed first margin o p m term
+      between : (m : ℕ) → a ≤ m → 0 < rate_by first margin tables o p a term → MonthlyPrinted first margin o p (suc m) term
+          → MonthlyPrinted first margin o p m term
       between m h first-there r = omega (arith, any_printed o p a term first-there)
 
-      step : (m : ℕ) → Printed first margin o p m term → Printed first margin o p (suc m) term
+      step : (m : ℕ) → MonthlyPrinted first margin o p m term → MonthlyPrinted first margin o p (suc m) term
           → rate_by first margin tables o p m term ≤ rate_by first margin tables o p (suc m) term
       step m here r = (entry_rules o p m term (omega arith) (omega (arith, good.apart))).column (any_shown o p (suc m) term r)

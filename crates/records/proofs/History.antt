@@ -17,7 +17,7 @@ use Rattle.settlement.proofs.Laws.{settle_refusal_lem}
 use Rattle.records.specs.declared.Contract.{Contract}
 use Rattle.records.specs.Record.{used_marks, all_zero, bad_record}
 use Rattle.records.specs.Post.{post_of, with_mark, posted_record}
-use Rattle.records.specs.History.{fresh_record, posted_all, NoneRefused, Holds}
+use Rattle.records.specs.History.{fresh_record, posted_all, NoneRefused, RecordHolds}
 use Rattle.records.proofs.Zeros.{zeros_further}
 use Rattle.records.proofs.Bad.{Good, good_record, not_bad}
 use Rattle.records.proofs.Posting.{taken, good_refusal, success_record}
@@ -84,7 +84,7 @@ grown c (m ∷ ms) full none =
     }
 
 -- a fresh record holds the marks that are posted into it
-pub posted_history : (t : Terms) (ms : List ℕ) → NoneRefused (fresh_record t) ms → Holds (posted_all (fresh_record t) ms) t ms
+pub posted_history : (t : Terms) (ms : List ℕ) → NoneRefused (fresh_record t) ms → RecordHolds (posted_all (fresh_record t) ms) t ms
 posted_history t ms none =
     let g = grown (fresh_record t) ms refl none in
     record {

@@ -24,7 +24,7 @@ NoneRefused c [] = Unit {0}
 NoneRefused c (m ∷ ms) = ((post_of c m).refusal ≡ 0) × NoneRefused (posted_record c m) ms
 
 -- the record c holds the terms t and the marks ms, and Settle of it is Settle of them
-pub record Holds (c : Contract) (t : Terms) (ms : List ℕ) : Type 0 where
+pub record RecordHolds (c : Contract) (t : Terms) (ms : List ℕ) : Type 0 where
   pub terms : c.terms ≡ t
   pub count : c.count ≡ length ms
   pub marks : used_marks c ≡ ms

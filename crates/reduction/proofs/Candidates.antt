@@ -8,13 +8,13 @@ use borrow.Author.Tests.{lt-ltb, le-ltb, ltb-true, ltb-false}
 use Rattle.reduction.specs.declared.Application.{Application}
 use Rattle.reduction.specs.Potential.{NearPotential}
 use Rattle.reduction.specs.Range.{InRange}
-use Rattle.reduction.specs.Search.{candidate_of, factor_of, years_to, potential_at, takes_at, below_npa, search_by}
+use Rattle.reduction.specs.Search.{candidate_of, factor_of, years_to, potential_at, candidate_is_taken, below_npa, search_by}
 use Rattle.reduction.specs.Bounds.{most_potential}
 use Rattle.reduction.proofs.Distance.{potential_most, potential_close}
 
 -- the age that the search gives by B < C, and what is left of that search from candidate k on
 abbrev pub search_from : Application → (k n : ℕ) → ℕ
-search_from a = search_by (takes_at a) a
+search_from a = search_by (candidate_is_taken a) a
 
 abbrev pub earliest_age : Application → ℕ
 earliest_age a = search_from a 0 3

@@ -11,9 +11,9 @@ use Rattle.common.specs.Choice.{pick}
 use Rattle.common.proofs.Tests.{by_test, or_true}
 use Rattle.reduction.specs.declared.Application.{Application}
 use Rattle.reduction.specs.Range.{out_of_range, InRange}
-use Rattle.reduction.specs.Search.{candidate_of, potential_at, takes_at, below_npa, search_by}
+use Rattle.reduction.specs.Search.{candidate_of, potential_at, candidate_is_taken, below_npa, search_by}
 use Rattle.reduction.specs.Answer.{ReductionNumbers, potential_shown, refused_with, refused_reduction, reduction_by, reduction_limit_of}
-use Rattle.reduction.specs.Clauses.{given_for, Shown, ReductionRefusals, ReductionAnswered}
+use Rattle.reduction.specs.Clauses.{given_for, CandidateShown, ReductionRefusals, ReductionAnswered}
 use Rattle.reduction.proofs.Near.{near_wider}
 use Rattle.reduction.proofs.Range.{in_range, not_out, out_by}
 use Rattle.reduction.proofs.Headroom.{takes_none}
@@ -62,7 +62,7 @@ module _ (a : Application) where
 
     -- with nothing existing the first candidate is taken
     untested : a.existing.0 ≡ 0 → earliest_age a ≡ candidate_of a 0
-    unfolding search_by takes_at
+    unfolding search_by candidate_is_taken
     untested none =
         rw (
           below_npa_lem a 0 (first_below a (in_range a in_it)),
@@ -70,7 +70,7 @@ module _ (a : Application) where
         )
 
     -- what is shown, and what is not
-    shows : (k : ℕ) → Shown a (earliest_age a) k → potential_shown a (earliest_age a) k ≡ potential_at a k
+    shows : (k : ℕ) → CandidateShown a (earliest_age a) k → potential_shown a (earliest_age a) k ≡ potential_at a k
     unfolding potential_shown
     shows k s =
         ⊎_elim
@@ -78,7 +78,7 @@ module _ (a : Application) where
         (λ l. rw (below_npa_lem a k s.below, le-leb (candidate_of a k) (earliest_age a) l, or_true (eqb (earliest_age a) 0)))
         s.until
 
-    hides : (k : ℕ) → k < 3 → (Shown a (earliest_age a) k → ⊥) → potential_shown a (earliest_age a) k ≡ 0
+    hides : (k : ℕ) → k < 3 → (CandidateShown a (earliest_age a) k → ⊥) → potential_shown a (earliest_age a) k ≡ 0
     unfolding potential_shown
     hides k h hidden =
         by_test (below_npa a k)
@@ -113,7 +113,7 @@ module _ (a : Application) where
         near = λ z k s. rw (given_shown (fine z) k s) (near_wider (omega arith) (close_at a (in_range a (fine z)) k s.among));
       }
     where
-      first_shown : (in_it : out_of_range a ≡ false) → a.existing.0 ≡ 0 → Shown a answer.age 0
+      first_shown : (in_it : out_of_range a ≡ false) → a.existing.0 ≡ 0 → CandidateShown a answer.age 0
       first_shown in_it none =
           record {
             among = omega arith;
@@ -121,5 +121,5 @@ module _ (a : Application) where
             until = inr (omega (arith, age_is in_it, untested in_it none));
           }
 
-      given_shown : (in_it : out_of_range a ≡ false) (k : ℕ) → Shown a answer.age k → given_for answer k ≡ potential_at a k
+      given_shown : (in_it : out_of_range a ≡ false) (k : ℕ) → CandidateShown a answer.age k → given_for answer k ≡ potential_at a k
       given_shown in_it k s = given_is in_it k s.among ∙ shows in_it k (rw (age_is in_it) at s)

@@ -5,14 +5,14 @@ use mathlib.Core.Path.{◌≡◌, refl, sym, ap}
 use Prim.Native.Nat.{ℕ, zero, suc}
 use lib.Dec.{eqb}
 use Rattle.reduction.specs.declared.Application.{Application}
-use Rattle.reduction.specs.Search.{potential_at, headroom, takes, takes_at, search_by}
+use Rattle.reduction.specs.Search.{potential_at, headroom, is_taken, candidate_is_taken, search_by}
 use Rattle.reduction.specs.Answer.{reduction_by, reduction_limit_of}
-use Rattle.reduction.specs.CutOff.{takes_cut_at}
+use Rattle.reduction.specs.CutOff.{candidate_is_taken_cut_off}
 use Rattle.reduction.proofs.Headroom.{below_cut}
 
 -- each candidate is taken just where it was
-pub takes_cut : (a : Application) (k : ℕ) → takes_cut_at a k ≡ takes_at a k
-unfolding takes_cut_at takes_at takes
+pub takes_cut : (a : Application) (k : ℕ) → candidate_is_taken_cut_off a k ≡ candidate_is_taken a k
+unfolding candidate_is_taken_cut_off candidate_is_taken is_taken
 takes_cut a k =
     ap (λ (t : Bool). eqb a.existing.0 0 || t)
     (sym (below_cut (potential_at a k) (headroom (potential_at a k) a.existing.0 a.limit.0)))
@@ -23,6 +23,6 @@ unfolding search_by
 search_same a s t same k zero = refl
 search_same a s t same k (suc n) = rw (same k, search_same a s t same (suc k) n)
 
-pub cut_off_same : (a : Application) → reduction_by (takes_cut_at a) a ≡ reduction_limit_of a
+pub cut_off_same : (a : Application) → reduction_by (candidate_is_taken_cut_off a) a ≡ reduction_limit_of a
 unfolding reduction_limit_of reduction_by
-cut_off_same a = rw (search_same a (takes_cut_at a) (takes_at a) (takes_cut a) 0 3)
+cut_off_same a = rw (search_same a (candidate_is_taken_cut_off a) (candidate_is_taken a) (takes_cut a) 0 3)

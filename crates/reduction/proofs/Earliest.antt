@@ -12,20 +12,20 @@ use lib.Signed.{◌<ℤ◌}
 use borrow.Author.Tests.{eqb-true, eqb-false, eq-eqb}
 use Rattle.common.proofs.Tests.{by_test, never}
 use Rattle.reduction.specs.declared.Application.{Application}
-use Rattle.reduction.specs.Search.{candidate_of, headroom, takes, takes_at, below_npa, search_by}
-use Rattle.reduction.specs.Clauses.{Passing, EarliestPassing, NonePassing}
+use Rattle.reduction.specs.Search.{candidate_of, headroom, is_taken, candidate_is_taken, below_npa, search_by}
+use Rattle.reduction.specs.Clauses.{PassingCandidate, EarliestPassing, NonePassing}
 use Rattle.reduction.proofs.Candidates.{search_from, earliest_age, candidate_least, candidates_rise, is_below, is_not_below}
 
 -- the test as a statement, both ways
-takes_room : (b existing limit : ℕ) → takes b existing limit ≡ true → (existing ≡ 0) ⊎ (pos b <ℤ headroom b existing limit)
-unfolding takes
+takes_room : (b existing limit : ℕ) → is_taken b existing limit ≡ true → (existing ≡ 0) ⊎ (pos b <ℤ headroom b existing limit)
+unfolding is_taken
 takes_room b existing limit e =
     by_test (eqb existing 0)
     (λ z. inl (eqb-true existing 0 z))
     (λ z. inr (record { lt = subst T (sym (rw z at e)) tt }))
 
-room_takes : (b existing limit : ℕ) → (existing ≡ 0) ⊎ (pos b <ℤ headroom b existing limit) → takes b existing limit ≡ true
-unfolding takes
+room_takes : (b existing limit : ℕ) → (existing ≡ 0) ⊎ (pos b <ℤ headroom b existing limit) → is_taken b existing limit ≡ true
+unfolding is_taken
 room_takes b existing limit (inl z) = rw (eq-eqb existing 0 z)
 room_takes b existing limit (inr h) = by_test (eqb existing 0) (λ z. rw z) (λ z. rw z (holds _ h.lt))
   where
@@ -39,29 +39,29 @@ record FirstFrom (a : Application) (k n age : ℕ) : Type 0 where
   from : k ≤ place
   among : place < k + n
   is : age ≡ candidate_of a place
-  passes : Passing a place
-  earlier : (j : ℕ) → k ≤ j → j < place → Passing a j → ⊥
+  passes : PassingCandidate a place
+  earlier : (j : ℕ) → k ≤ j → j < place → PassingCandidate a j → ⊥
 
 record Searched (a : Application) (k n age : ℕ) : Type 0 where
   given : (age ≡ 0 → ⊥) → FirstFrom a k n age
-  none : age ≡ 0 → (j : ℕ) → k ≤ j → j < k + n → Passing a j → ⊥
+  none : age ≡ 0 → (j : ℕ) → k ≤ j → j < k + n → PassingCandidate a j → ⊥
 
 module _ (a : Application) where
-  past : (k : ℕ) → below_npa a k ≡ false → (j : ℕ) → k ≤ j → Passing a j → ⊥
+  past : (k : ℕ) → below_npa a k ≡ false → (j : ℕ) → k ≤ j → PassingCandidate a j → ⊥
   past k e j h p = omega (arith, is_not_below a k e, candidates_rise a k j h, p.below)
 
-  left : (k : ℕ) → takes_at a k ≡ false → Passing a k → ⊥
-  unfolding takes_at
+  left : (k : ℕ) → candidate_is_taken a k ≡ false → PassingCandidate a k → ⊥
+  unfolding candidate_is_taken
   left k e p = never (sym e ∙ room_takes _ _ _ p.room)
 
-  passing : (k : ℕ) → below_npa a k ≡ true → takes_at a k ≡ true → Passing a k
-  unfolding takes_at
+  passing : (k : ℕ) → below_npa a k ≡ true → candidate_is_taken a k ≡ true → PassingCandidate a k
+  unfolding candidate_is_taken
   passing k b t = record { below = is_below a k b; room = takes_room _ _ _ t }
 
-  ended : (k n : ℕ) → ((j : ℕ) → k ≤ j → Passing a j → ⊥) → Searched a k n 0
+  ended : (k n : ℕ) → ((j : ℕ) → k ≤ j → PassingCandidate a j → ⊥) → Searched a k n 0
   ended k n h = record { given = λ z. absurd (z refl); none = λ z j p q. h j p }
 
-  passes_here : (k n : ℕ) → Passing a k → Searched a k (suc n) (candidate_of a k)
+  passes_here : (k n : ℕ) → PassingCandidate a k → Searched a k (suc n) (candidate_of a k)
   passes_here k n p =
       record {
         given = λ z.
@@ -76,7 +76,7 @@ module _ (a : Application) where
         none = λ z. absurd (omega (arith, candidate_least a k));
       }
 
-  go_on : (k n age : ℕ) → (Passing a k → ⊥) → Searched a (suc k) n age → Searched a k (suc n) age
+  go_on : (k n age : ℕ) → (PassingCandidate a k → ⊥) → Searched a (suc k) n age → Searched a k (suc n) age
   go_on k n age fails s =
       record {
         given = λ z.
@@ -92,15 +92,15 @@ module _ (a : Application) where
         none = λ z j l m q. here_or_later j l q (λ h. s.none z j h (omega arith) q);
       }
     where
-      here_or_later : (j : ℕ) → k ≤ j → Passing a j → (suc k ≤ j → ⊥) → ⊥
-      here_or_later j l q later = ⊎_elim (λ e. fails (subst (Passing a) (sym e) q)) later (eq-or-lt_of_le l)
+      here_or_later : (j : ℕ) → k ≤ j → PassingCandidate a j → (suc k ≤ j → ⊥) → ⊥
+      here_or_later j l q later = ⊎_elim (λ e. fails (subst (PassingCandidate a) (sym e) q)) later (eq-or-lt_of_le l)
 
   searched : (k n : ℕ) → Searched a k n (search_from a k n)
   unfolding search_by
   searched k zero = record { given = λ z. absurd (z refl); none = λ z j p q. omega arith }
   searched k (suc n) =
       by_test (below_npa a k)
-      (λ b. by_test (takes_at a k)
+      (λ b. by_test (candidate_is_taken a k)
       (λ t. rw (b, t) (passes_here k n (passing k b t)))
       (λ t. rw (b, t) (go_on k n _ (left k t) (searched (suc k) n))))
       (λ b. rw b (ended k (suc n) (past k b)))

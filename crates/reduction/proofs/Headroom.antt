@@ -9,7 +9,7 @@ use lib.IntN.{ℤ, pos, negsuc, sub_ℕ}
 use lib.Signed.{lt_z}
 use borrow.Author.Tests.{lt-ltb, le-ltb, ltb-true, ltb-false, eq-eqb, ne_eqb}
 use Rattle.common.proofs.Tests.{by_test, same_ltb}
-use Rattle.reduction.specs.Search.{headroom, takes}
+use Rattle.reduction.specs.Search.{headroom, is_taken}
 use Rattle.reduction.specs.CutOff.{cut_off}
 
 -- b is not below zero, so it is below c just where it is below c cut off
@@ -45,12 +45,12 @@ cut_headroom b existing limit =
     (λ e. let h = ltb-false b limit (sym (both_less b limit existing) ∙ e) in rw e (cut_difference b existing ∙ omega arith))
 
 -- without existing pension the candidate is taken, and else by L − A cut off: B − A is below B
-pub takes_none : (b existing limit : ℕ) → ltb 0 existing ≡ false → takes b existing limit ≡ true
-unfolding takes
+pub takes_none : (b existing limit : ℕ) → ltb 0 existing ≡ false → is_taken b existing limit ≡ true
+unfolding is_taken
 takes_none b existing limit e = rw (eq-eqb existing 0 (omega (arith, ltb-false 0 existing e)))
 
-pub takes_some : (b existing limit : ℕ) → ltb 0 existing ≡ true → takes b existing limit ≡ ltb b (limit - existing)
-unfolding takes
+pub takes_some : (b existing limit : ℕ) → ltb 0 existing ≡ true → is_taken b existing limit ≡ ltb b (limit - existing)
+unfolding is_taken
 takes_some b existing limit e =
     let some = ltb-true 0 existing e in
     rw (ne_eqb existing 0 (λ z. omega arith))

@@ -12,16 +12,16 @@ use Rattle.std.specs.List.{list_any}
 use Rattle.common.specs.Choice.{pick}
 use Rattle.common.proofs.Tests.{by_test, or_false}
 use Rattle.reduction.specs.declared.Application.{Application}
-use Rattle.reduction.specs.Range.{most_pence, outside, out_of_range, InRange}
+use Rattle.reduction.specs.Range.{most_reduction_pence, outside_range, out_of_range, InRange}
 
-within : (least most x : ℕ) → outside least most x ≡ false → (least ≤ x) × (x ≤ most)
-unfolding outside
+within : (least most x : ℕ) → outside_range least most x ≡ false → (least ≤ x) × (x ≤ most)
+unfolding outside_range
 within least most x e =
     let p = or_false _ _ e in
     (ltb-false x least p.0, ltb-false most x p.1)
 
-inside : (least most x : ℕ) → least ≤ x → x ≤ most → outside least most x ≡ false
-unfolding outside
+inside : (least most x : ℕ) → least ≤ x → x ≤ most → outside_range least most x ≡ false
+unfolding outside_range
 inside least most x l m = rw (le-ltb x least l, le-ltb most x m)
 
 -- none of a list is above a number, read past its end as 0
@@ -53,8 +53,8 @@ in_range a e =
       pay_low = pay.0;
       pay_high = pay.1;
       factors_high = none_above 1000 a.erfs four.0;
-      existing_high = ltb-false most_pence a.existing.0 five.0;
-      limit_high = ltb-false most_pence a.limit.0 five.1;
+      existing_high = ltb-false most_reduction_pence a.existing.0 five.0;
+      limit_high = ltb-false most_reduction_pence a.limit.0 five.1;
     }
 
 pub not_out : (a : Application) → InRange a → out_of_range a ≡ false
@@ -65,8 +65,8 @@ not_out a in_it =
       inside 24 64 a.age in_it.age_low in_it.age_high,
       inside 1 200000 a.pay in_it.pay_low in_it.pay_high,
       all_within 1000 a.erfs in_it.factors_high,
-      le-ltb most_pence a.existing.0 in_it.existing_high,
-      le-ltb most_pence a.limit.0 in_it.limit_high,
+      le-ltb most_reduction_pence a.existing.0 in_it.existing_high,
+      le-ltb most_reduction_pence a.limit.0 in_it.limit_high,
     )
 
 -- what the number that the code refuses with says

@@ -17,7 +17,7 @@ use Rattle.reduction.specs.declared.Application.{Application}
 use Rattle.reduction.specs.Power.{power_of}
 use Rattle.reduction.specs.Potential.{potential_of}
 use Rattle.reduction.specs.Range.{InRange}
-use Rattle.reduction.specs.Search.{candidate_of, factor_of, years_to, potential_at, takes, takes_at, below_npa, search_by}
+use Rattle.reduction.specs.Search.{candidate_of, factor_of, years_to, potential_at, is_taken, candidate_is_taken, below_npa, search_by}
 use Rattle.reduction.specs.Answer.{answered_reduction, reduction_limit_of}
 use Rattle.reduction.proofs.Range.{in_by}
 use Rattle.reduction.proofs.Growth.{power_more, power_most}
@@ -43,7 +43,7 @@ noted_more a (suc (suc zero)) b h e = rw e
 noted_more a (suc (suc (suc k))) b h e = absurd (omega arith)
 
 -- one candidate that is not taken
-further : (a : Application) (k n : ℕ) → below_npa a k ≡ true → takes_at a k ≡ false → search_from a k (suc n) ≡ search_from a (suc k) n
+further : (a : Application) (k n : ℕ) → below_npa a k ≡ true → candidate_is_taken a k ≡ false → search_from a k (suc n) ≡ search_from a (suc k) n
 unfolding search_by
 further a k n below t = rw (below, t)
 
@@ -140,11 +140,11 @@ module _ (a : Application) {k age power : ℕ} {p : List PensionPence} (s : Sear
       more : set p k b ≡ tried a (k + 1)
       more = rw s.noted (noted_more a k b among value)
 
-      test : {t v : Bool} → t ≡ takes b.0 a.existing.0 a.limit.0 → t ≡ v → takes_at a k ≡ v
-      unfolding takes_at
+      test : {t v : Bool} → t ≡ is_taken b.0 a.existing.0 a.limit.0 → t ≡ v → candidate_is_taken a k ≡ v
+      unfolding candidate_is_taken
       test told e = rw value at (sym told ∙ e)
 
-      module _ {t : Bool} (told : t ≡ takes b.0 a.existing.0 a.limit.0) where
+      module _ {t : Bool} (told : t ≡ is_taken b.0 a.existing.0 a.limit.0) where
         pub taken_here : t ≡ true → answered_reduction age (set p k b) ≡ reduction_limit_of a
         unfolding search_by
         taken_here e =

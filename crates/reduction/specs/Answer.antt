@@ -9,7 +9,7 @@ use Rattle.money.specs.Money.{pension}
 use Rattle.reduction.specs.declared.Application.{Application}
 use Rattle.reduction.specs.declared.ReductionLimit.{ReductionLimit}
 use Rattle.reduction.specs.Range.{out_of_range}
-use Rattle.reduction.specs.Search.{candidate_of, potential_at, takes_at, below_npa, search_by}
+use Rattle.reduction.specs.Search.{candidate_of, potential_at, candidate_is_taken, below_npa, search_by}
 
 -- the refusal, 0 none; the age, 0 for no scope; and the B of the three candidates
 pub record ReductionNumbers : Type 0 where
@@ -42,7 +42,7 @@ reduction_by taken a = pick (out_of_range a) refused_reduction (found_reduction 
 
 -- the reduction limit: by B < C
 unfoldable pub reduction_limit_of : Application → ReductionNumbers
-reduction_limit_of a = reduction_by (takes_at a) a
+reduction_limit_of a = reduction_by (candidate_is_taken a) a
 
 -- B of candidate k among those that an answer holds
 abbrev pub potential_held : List PensionPence → (k : ℕ) → ℕ

@@ -8,7 +8,7 @@ use Rattle.reduction.specs.Search.{candidate_of, years_to, factor_of, potential_
 use Rattle.reduction.specs.Answer.{ReductionNumbers}
 
 -- candidate k is below NPA, and A is 0 or B < C
-pub record Passing (a : Application) (k : ℕ) : Type 0 where
+pub record PassingCandidate (a : Application) (k : ℕ) : Type 0 where
   pub below : candidate_of a k < a.npa
   pub room : (a.existing.0 ≡ 0) ⊎ (pos (potential_at a k) <ℤ headroom (potential_at a k) a.existing.0 a.limit.0)
 
@@ -17,12 +17,12 @@ pub record EarliestPassing (a : Application) (age : ℕ) : Type 0 where
   pub place : ℕ
   pub among : place < 3
   pub is : age ≡ candidate_of a place
-  pub passes : Passing a place
-  pub earlier : (j : ℕ) → j < place → Passing a j → ⊥
+  pub passes : PassingCandidate a place
+  pub earlier : (j : ℕ) → j < place → PassingCandidate a j → ⊥
 
 -- none of the three passes
 abbrev pub NonePassing : Application → Type 0
-NonePassing a = (k : ℕ) → k < 3 → Passing a k → ⊥
+NonePassing a = (k : ℕ) → k < 3 → PassingCandidate a k → ⊥
 
 -- the B that is given for candidate k
 abbrev pub given_for : ReductionNumbers → ℕ → ℕ
@@ -31,7 +31,7 @@ given_for n (suc zero) = n.second
 given_for n (suc (suc k)) = n.third
 
 -- candidate k is below NPA, and not after the one that is taken, if one is
-pub record Shown (a : Application) (age k : ℕ) : Type 0 where
+pub record CandidateShown (a : Application) (age k : ℕ) : Type 0 where
   pub among : k < 3
   pub below : candidate_of a k < a.npa
   pub until : (age ≡ 0) ⊎ (candidate_of a k ≤ age)
@@ -55,7 +55,7 @@ pub record ReductionAnswered (a : Application) (n : ReductionNumbers) : Type 0 w
   -- where A is 0 the first candidate is taken, whatever L is, and its B is given
   pub untested : n.refusal ≡ 0 → a.existing.0 ≡ 0 → (n.age ≡ candidate_of a 0) × (n.first ≡ potential_at a 0)
   -- B is given as far as the search went below NPA, else 0
-  pub shown : n.refusal ≡ 0 → (k : ℕ) → Shown a n.age k → given_for n k ≡ potential_at a k
-  pub others : n.refusal ≡ 0 → (k : ℕ) → k < 3 → (Shown a n.age k → ⊥) → given_for n k ≡ 0
+  pub shown : n.refusal ≡ 0 → (k : ℕ) → CandidateShown a n.age k → given_for n k ≡ potential_at a k
+  pub others : n.refusal ≡ 0 → (k : ℕ) → k < 3 → (CandidateShown a n.age k → ⊥) → given_for n k ≡ 0
   -- each lies within 2 pence of its exact value
-  pub near : n.refusal ≡ 0 → (k : ℕ) → Shown a n.age k → NearPotential 2 (years_to a k) a.pay (factor_of a k) (given_for n k)
+  pub near : n.refusal ≡ 0 → (k : ℕ) → CandidateShown a n.age k → NearPotential 2 (years_to a k) a.pay (factor_of a k) (given_for n k)

@@ -10,6 +10,6 @@ cut_off (pos n) = n
 cut_off (negsuc n) = 0
 
 -- whether candidate k is taken, with C cut off
-unfoldable pub takes_cut_at : Application → ℕ → Bool
-takes_cut_at a k =
+unfoldable pub candidate_is_taken_cut_off : Application → ℕ → Bool
+candidate_is_taken_cut_off a k =
     eqb a.existing.0 0 || ltb (potential_at a k) (cut_off (headroom (potential_at a k) a.existing.0 a.limit.0))

@@ -32,12 +32,12 @@ unfoldable pub headroom : (b existing limit : ℕ) → ℤ
 headroom b existing limit = greater_of (sub_ℕ b existing) (sub_ℕ limit existing)
 
 -- B < C; where A is 0 a candidate is taken untested
-unfoldable pub takes : (b existing limit : ℕ) → Bool
-takes b existing limit = eqb existing 0 || lt_z (pos b) (headroom b existing limit)
+unfoldable pub is_taken : (b existing limit : ℕ) → Bool
+is_taken b existing limit = eqb existing 0 || lt_z (pos b) (headroom b existing limit)
 
 -- whether candidate k is taken
-unfoldable pub takes_at : Application → ℕ → Bool
-takes_at a k = takes (potential_at a k) a.existing.0 a.limit.0
+unfoldable pub candidate_is_taken : Application → ℕ → Bool
+candidate_is_taken a k = is_taken (potential_at a k) a.existing.0 a.limit.0
 
 -- a candidate that is not below NPA ends the search
 unfoldable pub below_npa : Application → ℕ → Bool

@@ -11,7 +11,7 @@ ghost use Rattle.money.specs.Money.{pension};
 ghost use Rattle.reduction.specs.Power.{power_of};
 ghost use Rattle.reduction.specs.Potential.{potential_of};
 ghost use Rattle.reduction.specs.Range.{out_of_range};
-ghost use Rattle.reduction.specs.Search.{takes};
+ghost use Rattle.reduction.specs.Search.{is_taken};
 ghost use Rattle.reduction.specs.Answer.{reduction_limit_of, numbers_of_reduction, has_scope};
 ghost use Rattle.reduction.specs.Clauses.{ReductionRefusals, ReductionAnswered};
 
@@ -94,7 +94,7 @@ impl Application {
     }
 
     // Whether any number is.
-    #[tactic(auto, unfolding(crate::specs::Range::out_of_range, crate::specs::Range::outside))]
+    #[tactic(auto, unfolding(crate::specs::Range::out_of_range, crate::specs::Range::outside_range))]
     fn is_out_of_range(self) -> bool
         ensures { result ≡ out_of_range self }
     {
@@ -126,8 +126,8 @@ impl Application {
     // Whether a candidate is taken: untested without existing pension, else if B < C. Of the two in C only L − A can be above B; and as B
     // is not below zero, L − A may be cut off at 0.
     #[tactic(auto, using(crate::proofs::Headroom::takes_none, crate::proofs::Headroom::takes_some))]
-    fn takes(self, b: PensionPence) -> bool
-        ensures { result ≡ takes b.0 self.existing.0 self.limit.0 }
+    fn is_taken(self, b: PensionPence) -> bool
+        ensures { result ≡ is_taken b.0 self.existing.0 self.limit.0 }
     {
         !self.existing.is_above(PensionPence::none()) || self.limit.less(self.existing).is_above(b)
     }
@@ -154,7 +154,7 @@ pub fn reduction_limit(a: Application) -> Result<ReductionLimit, Refusal>
         }
         let b = potential(candidate - a.age, power, a.pay, erf);
         potentials[k] = b;
-        if a.takes(b) {
+        if a.is_taken(b) {
             return Ok(ReductionLimit {
                 age: Some(candidate),
                 potentials,

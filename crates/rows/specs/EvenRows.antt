@@ -41,14 +41,14 @@ even_contributions =
     ∷ []
 
 -- year n: what is divided by the rate for n is so many pence and a half, and the credit is as stated
-abbrev pub year_rows : Terms → ℕ → (whole stated : ℕ) → List Row
-year_rows t n whole stated =
+abbrev pub year_credit_rows : Terms → ℕ → (whole stated : ℕ) → List Row
+year_credit_rows t n whole stated =
     let p = purchase_in t t.pnpa_years in
     is_half (year_credit undivided p n) (p.rate n) whole ∷ (only (year_credit nearest p n) is only stated) ∷ []
 
 -- year 2 of £1,500 over 8 years and of £1,000 over 3 years, in D67
 unfoldable pub even_years : List Row
-even_years = year_rows (at50 67 8 1500) 2 44062 44062 ++ year_rows (at50 67 3 1000) 2 68437 68438
+even_years = year_credit_rows (at50 67 8 1500) 2 44062 44062 ++ year_credit_rows (at50 67 3 1000) 2 68437 68438
 
 -- £1,000 over 5 years after 18 and 6 months; and over 2 years a second run that begins where half a penny went down, so that it earns
 -- a penny more

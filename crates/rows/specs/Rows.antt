@@ -58,8 +58,8 @@ abbrev pub missed_for : ℕ → List ℕ
 missed_for n = replicate n 0
 
 -- the numbers of a settlement: refusal, place, contribution, status, credit, refund
-abbrev pub six_numbers : Terms → List ℕ → List ℕ
-six_numbers t marks =
+abbrev pub settle_figures : Terms → List ℕ → List ℕ
+settle_figures t marks =
     let n = settle_of t marks in
     n.refusal ∷ n.place ∷ n.contribution ∷ n.status ∷ n.credit ∷ n.refund ∷ []
 
@@ -83,12 +83,12 @@ twelfths_at t month = month_numerator (year_credits nearest (purchase_in t t.pnp
 unfoldable pub credit_rows : List Row
 credit_rows =
     (first_years 2 nine_years is (0 ∷ 17198 ∷ []))
-    ∷ (six_numbers nine_years (paid_for 5) is (0 ∷ 0 ∷ 17150 ∷ 1 ∷ 7166 ∷ 0 ∷ []))
+    ∷ (settle_figures nine_years (paid_for 5) is (0 ∷ 0 ∷ 17150 ∷ 1 ∷ 7166 ∷ 0 ∷ []))
     ∷ (first_years 6 five_years is (0 ∷ 22259 ∷ 43338 ∷ 63285 ∷ 82201 ∷ 100000 ∷ []))
-    ∷ (six_numbers five_years (paid_for 18) is (0 ∷ 0 ∷ 24200 ∷ 1 ∷ 32798 ∷ 0 ∷ []))
+    ∷ (settle_figures five_years (paid_for 18) is (0 ∷ 0 ∷ 24200 ∷ 1 ∷ 32798 ∷ 0 ∷ []))
     ∷ (only (twelfths_at five_years 18) is only 393582)
     ∷ ((value_at five_years 18 ∷ value_at five_years 28 ∷ value_at five_years 22 ∷ []) is (32798 ∷ 49987 ∷ 39825 ∷ []))
-    ∷ (six_numbers five_years (paid_for 18 ++ (missed_for 4 ++ paid_for 6)) is (0 ∷ 0 ∷ 24200 ∷ 1 ∷ 42960 ∷ 0 ∷ []))
+    ∷ (settle_figures five_years (paid_for 18 ++ (missed_for 4 ++ paid_for 6)) is (0 ∷ 0 ∷ 24200 ∷ 1 ∷ 42960 ∷ 0 ∷ []))
     ∷ []
 
 -- a fraction's whole part, and that it is n ÷ d, multiplied out
@@ -108,20 +108,20 @@ exact_rows =
 -- notice after eleven and after twelve paid months, resuming after eleven and after twelve missed ones, and first marks 0 and 2
 unfoldable pub status_rows : List Row
 status_rows =
-    (six_numbers five_years (paid_for 11 ++ (2 ∷ [])) is (0 ∷ 0 ∷ 24200 ∷ 5 ∷ 0 ∷ 266200 ∷ []))
-    ∷ (six_numbers five_years (paid_for 12 ++ (2 ∷ [])) is (0 ∷ 0 ∷ 24200 ∷ 4 ∷ 22259 ∷ 0 ∷ []))
+    (settle_figures five_years (paid_for 11 ++ (2 ∷ [])) is (0 ∷ 0 ∷ 24200 ∷ 5 ∷ 0 ∷ 266200 ∷ []))
+    ∷ (settle_figures five_years (paid_for 12 ++ (2 ∷ [])) is (0 ∷ 0 ∷ 24200 ∷ 4 ∷ 22259 ∷ 0 ∷ []))
     ∷ (only (settle_of five_years (paid_for 1 ++ (missed_for 11 ++ paid_for 1))).refusal is only 0)
-    ∷ (six_numbers five_years (paid_for 1 ++ (missed_for 12 ++ paid_for 1)) is (12 ∷ 13 ∷ 0 ∷ 0 ∷ 0 ∷ 0 ∷ []))
-    ∷ (six_numbers five_years (0 ∷ []) is (12 ∷ 0 ∷ 0 ∷ 0 ∷ 0 ∷ 0 ∷ []))
-    ∷ (six_numbers five_years (2 ∷ []) is (0 ∷ 0 ∷ 24200 ∷ 5 ∷ 0 ∷ 0 ∷ []))
+    ∷ (settle_figures five_years (paid_for 1 ++ (missed_for 12 ++ paid_for 1)) is (12 ∷ 13 ∷ 0 ∷ 0 ∷ 0 ∷ 0 ∷ []))
+    ∷ (settle_figures five_years (0 ∷ []) is (12 ∷ 0 ∷ 0 ∷ 0 ∷ 0 ∷ 0 ∷ []))
+    ∷ (settle_figures five_years (2 ∷ []) is (0 ∷ 0 ∷ 24200 ∷ 5 ∷ 0 ∷ 0 ∷ []))
     ∷ []
 
 -- not in the paper: a contract on which rounding only at the end would give a penny more, and one with 5 odd months on which dividing
 -- the blended contribution by each table's rate would give other figures
 unfoldable pub telling_rows : List Row
 telling_rows =
-    (six_numbers five_years (paid_for 1 ++ (missed_for 1 ++ paid_for 5)) is (0 ∷ 0 ∷ 24200 ∷ 1 ∷ 11129 ∷ 0 ∷ []))
-    ∷ (six_numbers odd_months (paid_for 30) is (0 ∷ 0 ∷ 25573 ∷ 1 ∷ 54042 ∷ 0 ∷ []))
+    (settle_figures five_years (paid_for 1 ++ (missed_for 1 ++ paid_for 5)) is (0 ∷ 0 ∷ 24200 ∷ 1 ∷ 11129 ∷ 0 ∷ []))
+    ∷ (settle_figures odd_months (paid_for 30) is (0 ∷ 0 ∷ 25573 ∷ 1 ∷ 54042 ∷ 0 ∷ []))
     ∷ []
 
 -- all of them

@@ -13,6 +13,7 @@ use election::Election;
 use marks::{Reading, Status};
 use money::{Pence, PensionPence};
 use refusals::{Refusal, Refused};
+use scheme::ROW_PLACES;
 use terms::Terms;
 
 // The marks read so far, and what their runs earned in each table; nothing in the upper where there is none.
@@ -30,8 +31,8 @@ struct Walk {
 #[derive(Clone, Copy)]
 struct YearRows {
     election: Election,
-    lower: [u32; 21],
-    upper: Option<[u32; 21]>,
+    lower: [u32; ROW_PLACES],
+    upper: Option<[u32; ROW_PLACES]>,
     ghost monthly: { 0 < election.terms.term },
     ghost lower_is: { lower ≡ year_credits nearest (purchase_in election.terms election.terms.pnpa_years) },
     ghost upper_is: { upper ≡ upper_years election.terms },
@@ -39,7 +40,7 @@ struct YearRows {
 
 // The upper table's whole-year credits, where the pension age has odd months. `YearRows` keeps what is asked here.
 #[tactic(auto, using(crate::proofs::Laws::upper_table))]
-fn upper_years(e: Election) -> Option<[u32; 21]>
+fn upper_years(e: Election) -> Option<[u32; ROW_PLACES]>
     requires { 0 < e.terms.term }
     ensures { result ≡ upper_years e.terms }
 {

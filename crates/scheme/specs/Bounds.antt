@@ -29,11 +29,11 @@ abbrev pub most_refund : ℕ
 most_refund = max ((ceased_from - 1) * most_monthly_contribution) most_lump_sum
 
 -- the last number that refuses terms, a quote and a settlement
-abbrev pub last_of_terms : ℕ
-last_of_terms = 8
+abbrev pub last_terms_refusal : ℕ
+last_terms_refusal = 8
 
-abbrev pub last_of_quote : ℕ
-last_of_quote = 9
+abbrev pub last_quote_refusal : ℕ
+last_quote_refusal = 9
 
-abbrev pub last_of_settle : ℕ
-last_of_settle = 12
+abbrev pub last_settle_refusal : ℕ
+last_settle_refusal = 12

@@ -1,6 +1,6 @@
 -- Document 01, "Terms of an election", "Rates" and "Marks and status": the numbers of the scheme by name.
 -- Assumes nothing.
-use Rattle.std.specs.Prelude.{ℕ, ◌*◌}
+use Rattle.std.specs.Prelude.{ℕ, suc, ◌*◌}
 use Rattle.common.specs.Calendar.{months_in_year}
 
 -- pounds of pension a year that a rate is for: pension is sold in such steps
@@ -27,6 +27,10 @@ longest_term = 20
 
 abbrev pub most_marks : ℕ
 most_marks = months_in_year * longest_term
+
+-- the places of a row of whole-year credits: the start, and each year of the longest term
+abbrev pub row_places : ℕ
+row_places = suc longest_term
 
 -- how many missed months in a row leave a contract open: a payment is still taken after them
 abbrev pub open_months : ℕ

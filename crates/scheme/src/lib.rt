@@ -13,6 +13,9 @@ pub const LONGEST_TERM: u32 = 20;
 
 pub const MOST_MARKS: usize = 240;
 
+// The places of a row of whole-year credits: the start, and each year of the longest term.
+pub const ROW_PLACES: usize = 21;
+
 // How many missed months in a row leave a contract open: a payment is still taken after them.
 pub const OPEN_MONTHS: usize = 11;
 

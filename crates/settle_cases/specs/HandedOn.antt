@@ -12,9 +12,9 @@ pub record KeptAfter (before : OpenLine) (read : List ℕ) (after : OpenLine) : 
   pub kept : bytes_of after ≡ take kept_bytes (open_after (bytes_of before) read)
 
 -- what was read is settled and printed, or printing failed
-abbrev pub Printed : OpenLine → List ℕ → Result OpenLine Failure → Type 0
-Printed before read (Ok after) = KeptAfter before read after
-Printed before read (Err failure) = failure ≡ Writing
+abbrev pub AfterPrinting : OpenLine → List ℕ → Result OpenLine Failure → Type 0
+AfterPrinting before read (Ok after) = KeptAfter before read after
+AfterPrinting before read (Err failure) = failure ≡ Writing
 
 -- the open line that is handed on by a read into the buffer, where `before` was open: after as many bytes as were read
 abbrev pub HandedOn : OpenLine → List ℕ → OpenLine → Result ℕ Failure → Type 0

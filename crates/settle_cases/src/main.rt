@@ -2,7 +2,7 @@
 // writing fails it stops and says so on standard error, and no line is printed for what was not read to its end.
 #![tactic(auto)]
 
-ghost use Rattle.settle_cases.specs.HandedOn.{Printed, HandedOn};
+ghost use Rattle.settle_cases.specs.HandedOn.{AfterPrinting, HandedOn};
 
 use casefile::OpenLine;
 use std::fmt;
@@ -34,7 +34,7 @@ fn print_settled<W: Write>(
     read: &[u8],
     out: &mut [u8; BUFFER_BYTES],
 ) -> Result<OpenLine, Failure>
-    ensures { Printed before read.now result }
+    ensures { AfterPrinting before read.now result }
 {
     let mut line = before;
     let mut rest = read;

@@ -14,7 +14,7 @@ use lib.ListN.{length}
 use Rattle.common.specs.Choice.{pick}
 use Rattle.common.specs.Calendar.{months_in_year}
 use Rattle.scheme.specs.Scheme.{pounds_in_pence, longest_term, most_marks, open_months, ceased_from}
-use Rattle.scheme.specs.Bounds.{most_monthly_contribution, most_refund, last_of_settle}
+use Rattle.scheme.specs.Bounds.{most_monthly_contribution, most_refund, last_settle_refusal}
 use Rattle.terms.specs.declared.Terms.{Terms}
 use Rattle.terms.specs.Rules.{refusal_of}
 use Rattle.election.specs.Price.{contribution_of}
@@ -37,7 +37,7 @@ use Rattle.settlement.proofs.Demand.{worked_most}
 module _ (t : Terms) (ms : List ℕ) where
   -- a refusal within its bounds
   abbrev Bounded : RefusedAt → Type 0
-  Bounded r = (r.number ≤ last_of_settle) × (r.place ≤ most_marks - 1)
+  Bounded r = (r.number ≤ last_settle_refusal) × (r.place ≤ most_marks - 1)
 
   -- of the marks under accepted terms
   by_marks : refusal_of t 0 ≡ 0 → Bounded (marks_refusal open_months t.term ms)

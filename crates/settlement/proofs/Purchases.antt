@@ -15,15 +15,16 @@ use Rattle.election.specs.declared.TableRates.{TableRates}
 use Rattle.election.specs.Price.{contribution_at, contribution_in}
 use Rattle.election.specs.LookedUp.{rates_of}
 use Rattle.election.specs.TermsAccepted.{TermsAccepted}
+use Rattle.terms.specs.Rate.{units_of}
 use Rattle.terms.proofs.Laws.{monthly_rate}
 use Rattle.election.proofs.Laws.{upper_rate_is, upper_rate_none}
-use Rattle.scheme.specs.Scheme.{step_pounds, pounds_in_pence, cap_pence, most_marks}
+use Rattle.scheme.specs.Scheme.{pounds_in_pence, cap_pence, most_marks}
 use Rattle.years.specs.Years.{own_contribution}
 use Rattle.credit.specs.Credit.{credit_over, credit_in}
 use Rattle.credit.proofs.Bounds.{credit_most}
 use Rattle.years.specs.Elected.{purchase_in}
 use Rattle.years.proofs.Elected.{rates_fall}
-use Rattle.distance.specs.Distance.{Sound}
+use Rattle.distance.specs.Distance.{SoundPurchases}
 use Rattle.settlement.specs.Credit.{purchases_of, credit_of}
 
 module _ (t : Terms) (a : TermsAccepted t 0) (monthly : 0 < t.term) where
@@ -33,14 +34,14 @@ module _ (t : Terms) (a : TermsAccepted t 0) (monthly : 0 < t.term) where
   upper_printed : (t.pnpa_months ≡ 0 → ⊥) → 0 < rate_of t.option (t.pnpa_years + 1) t.age t.term
   upper_printed odd = rw (monthly_rate t (t.pnpa_years + 1) monthly) at (a.upper_rate odd)
 
-  pub sound : Sound (purchases_of t)
+  pub sound : SoundPurchases (purchases_of t)
   sound =
       record {
         odd_most = a.pension_age.months_high;
         term_most = a.term_high;
-        lower_falls = rates_fall t.option t.pnpa_years t.age t.term (t.amount / step_pounds) lower_printed;
+        lower_falls = rates_fall t.option t.pnpa_years t.age t.term (units_of t) lower_printed;
         upper_falls =
-            λ odd. rates_fall t.option (t.pnpa_years + 1) t.age t.term (t.amount / step_pounds) (upper_printed (λ z. omega arith));
+            λ odd. rates_fall t.option (t.pnpa_years + 1) t.age t.term (units_of t) (upper_printed (λ z. omega arith));
         same_term = refl;
         same_unit = refl;
         same_units = refl;

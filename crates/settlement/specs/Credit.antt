@@ -5,7 +5,7 @@ use Rattle.rounding.specs.Nearest.{nearest}
 use Rattle.terms.specs.declared.Terms.{Terms}
 use Rattle.years.specs.Elected.{purchase_in}
 use Rattle.distance.specs.Fraction.{Fraction}
-use Rattle.distance.specs.Distance.{Purchases, credit_by, exactly}
+use Rattle.distance.specs.Distance.{Purchases, credit_by, exact_credit_by}
 
 -- the odd months of the pension age, and its two neighbouring tables
 abbrev pub purchases_of : Terms → Purchases
@@ -18,4 +18,4 @@ credit_of t marks = credit_by nearest (purchases_of t) marks
 
 -- the exact credit, a fraction of a penny
 unfoldable pub exact_credit_of : Terms → (marks : List ℕ) → Fraction
-exact_credit_of t marks = exactly (purchases_of t) marks
+exact_credit_of t marks = exact_credit_by (purchases_of t) marks

@@ -1,7 +1,7 @@
 -- Demand 3 of document 01: how far the credit of a settlement lies from the exact credit.
 -- Assumes nothing.
 use Rattle.std.specs.Prelude.{List, ◌≡◌, ℕ, ◌≤◌}
-use Rattle.scheme.specs.Scheme.{open_months}
+use Rattle.scheme.specs.Scheme.{longest_term, open_months}
 use Rattle.terms.specs.declared.Terms.{Terms}
 use Rattle.marks.specs.Status.{status_of}
 use Rattle.credit.specs.Runs.{run_count}
@@ -14,7 +14,7 @@ use Rattle.settlement.specs.Settle.{SettleNumbers}
 abbrev pub Demand3 : Terms → (marks : List ℕ) → SettleNumbers → Type 0
 Demand3 t marks n =
     n.refusal ≡ 0
-    → (1 ≤ t.term) × (t.term ≤ 20)
+    → (1 ≤ t.term) × (t.term ≤ longest_term)
     → 1 ≤ run_count marks
     → (status_of open_months t.term marks ≡ 5 → ⊥)
     → Within n.credit (exact_credit_of t marks) (half_pence t.pnpa_months (run_count marks))

@@ -9,14 +9,14 @@ use borrow.Author.Tests.{eq-eqb, ne_eqb, eqb-false}
 use Rattle.common.specs.Choice.{pick, first_of}
 use Rattle.common.proofs.Choice.{either, not_first, first_refuses, first_passes, both_pass}
 use Rattle.common.proofs.Tests.{by_test, or_false}
-use Rattle.scheme.specs.Bounds.{last_of_terms}
+use Rattle.scheme.specs.Bounds.{last_terms_refusal}
 use Rattle.rates.specs.Rates.{rate_of, lump_rate_of}
 use Rattle.terms.specs.declared.Terms.{Terms}
 use Rattle.terms.specs.Rate.{rate_for, table_rate}
 use Rattle.terms.specs.Rules.{wrong_option, wrong_pension_age, wrong_term, wrong_payer, missing_upper, no_rate, no_upper_rate, wrong_amount, above_cap}
 use Rattle.terms.specs.Rules.{refusal_of}
 use Rattle.terms.specs.Printed.{FirstFourPass}
-use Rattle.terms.specs.Halves.{terms_refusal, price_refusal, rate_refusal, amount_refusal}
+use Rattle.terms.specs.RefusalParts.{terms_refusal, price_refusal, rate_refusal, amount_refusal}
 
 -- a chain gives 0 only where its first test fails and the rest gives 0
 passed : (b : Bool) (n rest : ℕ) → 0 < n → pick b n rest ≡ 0 → (b ≡ false) × (rest ≡ 0)
@@ -98,10 +98,10 @@ module _ (t : Terms) (existing : ℕ) (terms : terms_refusal t ≡ 0) where
   amount_decides rates = in_parts t existing ∙ first_passes _ _ terms ∙ first_passes _ _ rates
 
 -- the greatest refusal
-pub refusal_most : (t : Terms) (existing : ℕ) → refusal_of t existing ≤ last_of_terms
+pub refusal_most : (t : Terms) (existing : ℕ) → refusal_of t existing ≤ last_terms_refusal
 unfolding refusal_of
 refusal_most t existing =
-    let Most : ℕ → Type 0 = λ n. n ≤ last_of_terms in
+    let Most : ℕ → Type 0 = λ n. n ≤ last_terms_refusal in
     either Most (wrong_option t) (omega arith)
     (either Most (wrong_pension_age t) (omega arith)
     (either Most (wrong_term t) (omega arith)

@@ -14,8 +14,8 @@ use Rattle.rates.proofs.Laws.{rate_printed, rate_shown, lump_shown, lump_none}
 use Rattle.terms.specs.declared.Terms.{Terms}
 use Rattle.terms.specs.Rate.{table_rate}
 use Rattle.terms.specs.Rules.{missing_upper, no_rate, no_upper_rate, wrong_amount, above_cap, refusal_of}
-use Rattle.terms.specs.Halves.{price_refusal}
-use Rattle.terms.specs.Printed.{LumpThere, MonthlyThere, LacksRate, LacksUpperRate, FirstFourPass, RatesTold}
+use Rattle.terms.specs.RefusalParts.{price_refusal}
+use Rattle.terms.specs.Printed.{LumpPrintedFor, MonthlyPrintedFor, LacksRate, LacksUpperRate, FirstFourPass, PrintedRefusals}
 use Rattle.terms.proofs.Laws.{first_four_pass, price_decides, lump_rate, monthly_rate, lower_rate_some}
 
 -- a number that cannot be above 0 is 0
@@ -25,19 +25,19 @@ not_above (suc n) h = absurd (h (omega arith))
 
 -- a rate is 0 just where nothing is printed
 module _ (t : Terms) (p : ℕ) where
-  zero_lump : t.term ≡ 0 → table_rate t p ≡ 0 → LumpThere t p → ⊥
+  zero_lump : t.term ≡ 0 → table_rate t p ≡ 0 → LumpPrintedFor t p → ⊥
   zero_lump z e there = omega (arith, lump_rate t p z, lump_shown t.option p t.age there)
 
-  none_lump : t.term ≡ 0 → (LumpThere t p → ⊥) → table_rate t p ≡ 0
+  none_lump : t.term ≡ 0 → (LumpPrintedFor t p → ⊥) → table_rate t p ≡ 0
   none_lump z no_lump = lump_rate t p z ∙ lump_none t.option p t.age no_lump
 
-  zero_monthly : 0 < t.term → table_rate t p ≡ 0 → MonthlyThere t p → ⊥
+  zero_monthly : 0 < t.term → table_rate t p ≡ 0 → MonthlyPrintedFor t p → ⊥
   zero_monthly m e there = omega (arith, monthly_rate t p m, rate_shown t.option p t.age t.term there)
 
-  none_monthly : 0 < t.term → (MonthlyThere t p → ⊥) → table_rate t p ≡ 0
+  none_monthly : 0 < t.term → (MonthlyPrintedFor t p → ⊥) → table_rate t p ≡ 0
   none_monthly m no-rate = monthly_rate t p m ∙ not_above _ (λ h. no-rate (rate_printed t.option p t.age t.term h))
 
-  some_monthly : 0 < t.term → MonthlyThere t p → eqb (table_rate t p) 0 ≡ false
+  some_monthly : 0 < t.term → MonthlyPrintedFor t p → eqb (table_rate t p) 0 ≡ false
   some_monthly m there = ne_eqb (table_rate t p) 0 (λ e. zero_monthly m e there)
 
 -- the upper rate is missing just where odd months need it and there is none
@@ -122,9 +122,9 @@ module _ (t : Terms) (existing : ℕ) where
   five_other : pick (no_upper_rate t) 6 after_six ≡ 5 → ⊥
   five_other = either (λ n. n ≡ 5 → ⊥) (no_upper_rate t) (λ e. omega arith) six_other.0
 
-  pub rates_told : FirstFourPass t → RatesTold t existing
+  pub printed_refusals : FirstFourPass t → PrintedRefusals t existing
   unfolding price_refusal
-  rates_told pass =
+  printed_refusals pass =
       let whole = price_decides t existing (first_four_pass t pass) in
       record {
         five = λ e. no_rate_says t (refuses_just (no_rate t) 5 _ five_other (sym whole ∙ e));

@@ -1,4 +1,4 @@
 pub mod Rate
 pub mod Rules
 pub mod Printed
-pub mod Halves
+pub mod RefusalParts

@@ -2,31 +2,31 @@
 -- Assumes nothing.
 use Rattle.std.specs.Prelude.{false, ◌⊎◌, ◌≡◌, ℕ, ◌+◌, ◌<◌}
 use Rattle.scheme.specs.Scheme.{first_age, print_margin}
-use Rattle.rates.specs.Rates.{Printed, LumpPrinted}
+use Rattle.rates.specs.Rates.{MonthlyPrinted, LumpPrinted}
 use Rattle.terms.specs.declared.Terms.{Terms}
 use Rattle.terms.specs.Rules.{wrong_option, wrong_pension_age, wrong_term, wrong_payer, refusal_of}
 
 -- the whole pension ages that are needed: the only or lower one, and with odd months the upper
-abbrev pub Needed : Terms → (pension_age : ℕ) → Type 0
-Needed t pension_age = (pension_age ≡ t.pnpa_years) ⊎ ((pension_age ≡ t.pnpa_years + 1) × (t.pnpa_months ≡ 0 → ⊥))
+abbrev pub NeededPensionAge : Terms → (pension_age : ℕ) → Type 0
+NeededPensionAge t pension_age = (pension_age ≡ t.pnpa_years) ⊎ ((pension_age ≡ t.pnpa_years + 1) × (t.pnpa_months ≡ 0 → ⊥))
 
 -- what is printed for the terms at a whole pension age: a lump sum, and a monthly rate
-abbrev pub LumpThere : Terms → (pension_age : ℕ) → Type 0
-LumpThere t pension_age = LumpPrinted t.option pension_age t.age
+abbrev pub LumpPrintedFor : Terms → (pension_age : ℕ) → Type 0
+LumpPrintedFor t pension_age = LumpPrinted t.option pension_age t.age
 
-abbrev pub MonthlyThere : Terms → (pension_age : ℕ) → Type 0
-MonthlyThere t pension_age = Printed first_age print_margin t.option pension_age t.age t.term
+abbrev pub MonthlyPrintedFor : Terms → (pension_age : ℕ) → Type 0
+MonthlyPrintedFor t pension_age = MonthlyPrinted first_age print_margin t.option pension_age t.age t.term
 
 -- 5: the lump sum at a needed pension age, or the monthly rate of the only or lower one, is not printed
 abbrev pub LacksRate : Terms → Type 0
 LacksRate t =
-    ((t.term ≡ 0) × ((p : ℕ) × (Needed t p × (LumpThere t p → ⊥))))
-    ⊎ ((0 < t.term) × (MonthlyThere t t.pnpa_years → ⊥))
+    ((t.term ≡ 0) × ((p : ℕ) × (NeededPensionAge t p × (LumpPrintedFor t p → ⊥))))
+    ⊎ ((0 < t.term) × (MonthlyPrintedFor t t.pnpa_years → ⊥))
 
 -- 6: the monthly rate of the lower pension age is printed, and that of the upper, which odd months need, is not
 abbrev pub LacksUpperRate : Terms → Type 0
 LacksUpperRate t =
-    (0 < t.term) × (MonthlyThere t t.pnpa_years × ((t.pnpa_months ≡ 0 → ⊥) × (MonthlyThere t (t.pnpa_years + 1) → ⊥)))
+    (0 < t.term) × (MonthlyPrintedFor t t.pnpa_years × ((t.pnpa_months ≡ 0 → ⊥) × (MonthlyPrintedFor t (t.pnpa_years + 1) → ⊥)))
 
 -- the rules that need no rate, 1 to 4, pass
 pub record FirstFourPass (t : Terms) : Type 0 where
@@ -36,7 +36,7 @@ pub record FirstFourPass (t : Terms) : Type 0 where
   pub payer : wrong_payer t ≡ false
 
 -- there 5 and 6 are given just so
-pub record RatesTold (t : Terms) (existing : ℕ) : Type 0 where
+pub record PrintedRefusals (t : Terms) (existing : ℕ) : Type 0 where
   pub five : refusal_of t existing ≡ 5 → LacksRate t
   pub just_five : LacksRate t → refusal_of t existing ≡ 5
   pub six : refusal_of t existing ≡ 6 → LacksUpperRate t

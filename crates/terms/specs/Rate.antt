@@ -1,9 +1,14 @@
--- The rate that the terms of an election look up.
+-- What the terms of an election buy, in units, and the rate for a unit that they look up.
 -- Assumes nothing.
-use Rattle.std.specs.Prelude.{ℕ, eqb}
+use Rattle.std.specs.Prelude.{ℕ, ◌/◌, eqb}
 use Rattle.common.specs.Choice.{pick}
+use Rattle.scheme.specs.Scheme.{step_pounds}
 use Rattle.rates.specs.Rates.{rate_of, lump_rate_of}
 use Rattle.terms.specs.declared.Terms.{Terms}
+
+-- the amount in steps of £250: a rate is for one
+abbrev pub units_of : Terms → ℕ
+units_of t = t.amount / step_pounds
 
 -- the rate per £250 for an option, a whole pension age, an age and a term: of Table S for a lump sum, else of the monthly table; 0 where
 -- there is none

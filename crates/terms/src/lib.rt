@@ -3,8 +3,9 @@
 
 ghost use Rattle.std.specs.Prelude.{◌≡◌};
 ghost use Rattle.refusals.specs.Parts.{refusal_in};
+ghost use Rattle.terms.specs.Rate.{units_of};
 ghost use Rattle.terms.specs.Rules.{wrong_option, wrong_pension_age, wrong_payer};
-ghost use Rattle.terms.specs.Halves.{terms_refusal};
+ghost use Rattle.terms.specs.RefusalParts.{terms_refusal};
 
 use common::MONTHS_IN_YEAR;
 use refusals::Refusal;
@@ -24,8 +25,16 @@ pub struct Terms {
 }
 
 impl Terms {
+    // How many units a rate is for the amount has. The contribution and the credits both go by them.
+    #[inline]
+    pub fn units(self) -> u32
+        ensures { result ≡ units_of self }
+    {
+        self.amount / scheme::STEP
+    }
+
     // The rules that need no rate, 1 to 4.
-    #[tactic(auto, using(common::proofs::Tests::tests), unfolding(crate::specs::Halves::terms_refusal, crate::specs::Rules::wrong_term))]
+    #[tactic(auto, using(common::proofs::Tests::tests), unfolding(crate::specs::RefusalParts::terms_refusal, crate::specs::Rules::wrong_term))]
     pub fn check(self) -> Result<(), Refusal>
         ensures { refusal_in result ≡ terms_refusal self }
     {

@@ -13,6 +13,7 @@ use lib.ListN.{get_or, get_or-eq_default}
 use Rattle.common.specs.Calendar.{months_in_year}
 use Rattle.common.proofs.Tests.{by_test}
 use Rattle.common.proofs.Table.{length_tabulate, get_d_tabulate}
+use Rattle.scheme.specs.Scheme.{longest_term, row_places}
 use Rattle.rounding.specs.Rounding.{WithinHalf, Monotone}
 use Rattle.rounding.proofs.Laws.{round_most, blended_most}
 use Rattle.years.specs.Years.{Purchase, own_contribution, year_credit, year_credits, month_numerator, month_value, Falling}
@@ -34,10 +35,10 @@ module _ (round : ℕ → ℕ → ℕ) (p : Purchase) where
   pub row_year : p.term ≤ 20 → (n : ℕ) → get_or (year_credits round p) n 0 ≡ year_credit round p n
   unfolding year_credits
   row_year short n =
-      by_test (ltb n 21)
-      (λ h. get_d_tabulate (year_credit round p) 0 21 n (ltb-true n 21 h) ∙ ap (year_credit round p) (zero-add n))
-      (λ h. get_or-eq_default (year_credits round p) 0 (omega (arith, length_tabulate (year_credit round p) 0 21, ltb-false n 21 h))
-      ∙ sym (year_past n (omega (arith, ltb-false n 21 h))))
+      by_test (ltb n row_places)
+      (λ h. get_d_tabulate (year_credit round p) 0 row_places n (ltb-true n row_places h) ∙ ap (year_credit round p) (zero-add n))
+      (λ h. get_or-eq_default (year_credits round p) 0 (omega (arith, length_tabulate (year_credit round p) 0 row_places, ltb-false n row_places h))
+      ∙ sym (year_past n (omega (arith, ltb-false n row_places h))))
 
 -- a year has no credit by any rounding, or it is one from 1 to the term
 pub year_or_none : (p : Purchase) (n : ℕ) → ((round : ℕ → ℕ → ℕ) → year_credit round p n ≡ 0) ⊎ ((0 < n) × (n ≤ p.term))

@@ -5,6 +5,7 @@ use Rattle.std.specs.Prelude.{List, ℕ, suc, ◌*◌, ◌/◌, ◌%◌, ◌≤�
 use Rattle.common.specs.Choice.{pick}
 use Rattle.common.specs.Table.{tabulate}
 use Rattle.common.specs.Calendar.{months_in_year}
+use Rattle.scheme.specs.Scheme.{row_places}
 use Rattle.rounding.specs.Nearest.{twelfths}
 
 -- What one table knows of a monthly contract: its rate in pence at each term, the unit that a rate is for in pence of pension a year, how
@@ -31,7 +32,7 @@ year_credit round p n =
 
 -- all of them as one row: the start, and a place for each year that the longest term has
 unfoldable pub year_credits : (round : ℕ → ℕ → ℕ) → Purchase → List ℕ
-year_credits round p = tabulate (year_credit round p) 0 21
+year_credits round p = tabulate (year_credit round p) 0 row_places
 
 -- Twelve times what such a row is worth at a month, nothing rounded: the year that was last completed and the one under way, by the months
 -- passed since.

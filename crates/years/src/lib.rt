@@ -11,6 +11,7 @@ ghost use Rattle.years.specs.Elected.{purchase_in};
 
 use common::MONTHS_IN_YEAR;
 use money::{ContributionPence, Pence, PensionPence};
+use scheme::ROW_PLACES;
 use terms::Terms;
 
 // What a monthly contribution buys in as many years as the rate, which is for so much pension, is for.
@@ -23,15 +24,15 @@ fn year_credit(own: ContributionPence, unit: PensionPence, rate: u32) -> u32
 
 // The twenty-one whole-year credits of terms at a whole pension age; `rate` is that of the term. Year 0 and the years past the term stay 0.
 #[tactic(auto, using(rates::proofs::Laws::rate_printed, crate::proofs::Elected::rates_fall, crate::proofs::Years::year_none))]
-pub fn year_credits(t: Terms, pension_age: u32, rate: u32) -> [u32; 21]
+pub fn year_credits(t: Terms, pension_age: u32, rate: u32) -> [u32; ROW_PLACES]
     requires rate_value { rate ≡ rate_of t.option pension_age t.age t.term }
     requires rate_nonzero { (0 < rate) × (pounds_in_pence t.amount < 2 ^ 32) }
     ensures is { result ≡ year_credits nearest (purchase_in t pension_age) }
     ensures most { (n : ℕ) → get_or result n 0 ≤ pounds_in_pence t.amount }
 {
-    let own = ContributionPence::of_units(t.amount / scheme::STEP, rate);
+    let own = ContributionPence::of_units(t.units(), rate);
     let unit = PensionPence::of_pounds(scheme::STEP);
-    let mut years = [0u32; 21];
+    let mut years = [0u32; ROW_PLACES];
     for n in 1..=t.term {
         let yearly = monthly::monthly_rate(t.option, pension_age, t.age, n);
         years[n as usize] = year_credit(own, unit, yearly);
@@ -49,7 +50,7 @@ fn year_at(years: &[u32], n: u32) -> u32
 
 // The value at a contract month. Both ends of every run are valued here.
 #[tactic(auto, using(rounding::proofs::Laws::blend_most), unfolding(rounding::specs::Nearest::blend, crate::specs::Years::month_value, crate::specs::Years::month_numerator))]
-pub fn month_value(years: [u32; 21], month: u32) -> PensionPence
+pub fn month_value(years: [u32; ROW_PLACES], month: u32) -> PensionPence
     ensures is { result ≡ pension (month_value nearest years month) }
     ensures fits { result.0 < 2 ^ 32 }
 {

@@ -57,17 +57,17 @@ loop-k-init c =
     (search_begun _ (in_by _ c.in_ok-check.ensures refl) c.first_candidate-first.ensures c.power_to-power.ensures
     (rw c.none-potentials.ensures))
 
-pub returns-then-takes : goal.returns-then-takes
-returns-then-takes c =
+pub returns-then-is_taken : goal.returns-then-is_taken
+returns-then-is_taken c =
     let s = c.loop-k.invariant in
-    let p = promised c.args.a (taken_here _ s c.if-a-candidate.false c.potential-b.ensures c.takes.ensures c.if-takes.true) refl (some_age _ s) in
+    let p = promised c.args.a (taken_here _ s c.if-a-candidate.false c.potential-b.ensures c.is_taken.ensures c.if-is_taken.true) refl (some_age _ s) in
     record { is = p.0; refusals = p.1.0; answered = p.1.1.0; refused = p.1.1.1.0; scope = p.1.1.1.1 }
 
 pub loop-k-preserved : goal.loop-k-preserved
 loop-k-preserved c =
     let next : c.first_candidate-first.result + (c.loop-k.k + 1) ≡ c.first_candidate-first.result + c.loop-k.k + 1 = omega arith in
     rw next
-    (one_further _ c.loop-k.invariant c.if-a-candidate.false c.potential-b.ensures c.takes.ensures c.if-takes.false c.grown-power.ensures)
+    (one_further _ c.loop-k.invariant c.if-a-candidate.false c.potential-b.ensures c.is_taken.ensures c.if-is_taken.false c.grown-power.ensures)
 
 pub returns-then-a-candidate : goal.returns-then-a-candidate
 returns-then-a-candidate c =

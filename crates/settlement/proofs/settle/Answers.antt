@@ -13,14 +13,14 @@ use Rattle.marks.proofs.Counts.{months_most}
 use Rattle.money.specs.Contribution.{contribution}
 use Rattle.money.specs.declared.ContributionPence.{ContributionPence}
 use Rattle.examination.proofs.Laws.{settled_terms, settled_few}
-use Rattle.examination.proofs.Told.{unrefused}
+use Rattle.examination.proofs.Unrefused.{unrefused}
 use Rattle.examination.specs.Refusal.{settle_refusal}
-use Rattle.examination.specs.Examine.{ExaminedTold}
+use Rattle.examination.specs.Examine.{ExaminationOf}
 use Rattle.examination.specs.declared.Examined.{Examined}
 use Rattle.settlement.proofs.settle.Goals as goal
 
 module _ (t : Terms) (ms : List ℕ) where
-  module _ (none : refusing 0 0 ≡ settle_refusal t ms) {e : Examined} (told : ExaminedTold t ms e) where
+  module _ (none : refusing 0 0 ≡ settle_refusal t ms) {e : Examined} (told : ExaminationOf t ms e) where
     small : {k : ContributionPence} → k ≡ contribution (contribution_of e.election.terms) → (k.0 < 2 ^ 32) × (e.paid_months ≤ most_marks)
     small cost =
         rw (cost, told.terms, told.paid)

@@ -15,7 +15,7 @@ use Rattle.rounding.specs.Nearest.{nearest}
 use Rattle.rounding.proofs.InForce.{nearest_within_half}
 use Rattle.money.specs.declared.ContributionPence.{ContributionPence}
 use Rattle.money.specs.declared.PensionPence.{PensionPence}
-use Rattle.scheme.specs.Scheme.{pounds_in_pence}
+use Rattle.scheme.specs.Scheme.{pounds_in_pence, longest_term, row_places}
 use Rattle.money.specs.Money.{pension}
 use Rattle.money.specs.Contribution.{contribution}
 use Rattle.rates.specs.Rates.{rate_of}
@@ -51,11 +51,11 @@ module _ (p : Purchase) (n : ℕ) (own : ContributionPence) (unit : PensionPence
   this_year r h = h ∙ rw (t.paid, t.sold, t.rated) (sym (year_within nearest p n t.low t.within))
 
 -- a row that is filled up to the term is the row of credits
-filled : (p : Purchase) (years : List ℕ) (n : ℕ) → p.term < n → length years ≡ 21 → ((k : ℕ) → k < n → get_or years k 0 ≡ year_credit nearest p k)
-    → ((k : ℕ) → n ≤ k → k < 21 → get_or years k 0 ≡ 0) → years ≡ year_credits nearest p
+filled : (p : Purchase) (years : List ℕ) (n : ℕ) → p.term < n → length years ≡ row_places → ((k : ℕ) → k < n → get_or years k 0 ≡ year_credit nearest p k)
+    → ((k : ℕ) → n ≤ k → k < row_places → get_or years k 0 ≡ 0) → years ≡ year_credits nearest p
 unfolding year_credits
 filled p years n past len below above =
-    is_tabulate years (year_credit nearest p) 0 21 len λ k l.
+    is_tabulate years (year_credit nearest p) 0 row_places len λ k l.
     by_test (ltb k n) (λ h. below k (ltb-true k n h) ∙ ap (year_credit nearest p) (omega arith))
     (λ h. above k (ltb-false k n h) l ∙ sym (year_past nearest p (0 + k) (omega (arith, ltb-false k n h))))
 
@@ -67,7 +67,7 @@ module _ (t : Terms) (pension_age rate : ℕ) (priced : rate ≡ rate_of t.optio
   there : 0 < bought.rate bought.term
   there = rw priced at some
 
-  short : bought.term ≤ 20
+  short : bought.term ≤ longest_term
   short = (rate_printed _ _ _ _ there).term_high
 
   falling : Falling bought
@@ -81,7 +81,7 @@ turn : (c : After-monthly_rate-yearly) → Turn (purchase_in c.args.t c.args.pen
 turn c =
     let a = c.args in
     record {
-      paid = own_paid a.t a.pension_age a.rate c.requires.rate_value c.requires.rate_nonzero.0 _ c.of_units-own.ensures;
+      paid = own_paid a.t a.pension_age a.rate c.requires.rate_value c.requires.rate_nonzero.0 _ (rw c.units.ensures at c.of_units-own.ensures);
       sold = c.of_pounds-unit.ensures;
       rated = c.monthly_rate-yearly.ensures;
       low = omega arith;
@@ -98,9 +98,9 @@ year_credit-requires c =
 one_year : (c : After-year_credit)
     → Turn (purchase_in c.args.t c.args.pension_age) c.loop-n.n c.of_units-own.result c.of_pounds-unit.result c.monthly_rate-yearly.result
     → let years = set c.loop-n.years c.loop-n.n c.year_credit.result in
-    (length years ≡ 21)
+    (length years ≡ row_places)
     × ((k : ℕ) → k < c.loop-n.n + 1 → get_or years k 0 ≡ year_credit nearest (purchase_in c.args.t c.args.pension_age) k)
-    × ((k : ℕ) → c.loop-n.n + 1 ≤ k → k < 21 → get_or years k 0 ≡ 0)
+    × ((k : ℕ) → c.loop-n.n + 1 ≤ k → k < row_places → get_or years k 0 ≡ 0)
 one_year c turned =
     let a = c.args in
     let w = c.loop-n in

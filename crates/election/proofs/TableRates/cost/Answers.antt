@@ -19,6 +19,6 @@ blend-requires c =
     let t = c.args.t in
     let p = c.requires in
     let upper = upper_rate_is t c.in-Some.rate (sym (ap (λ r. r.upper) p.1) ∙ c.in-Some.is) in (
-      rw (c.of_units-own.ensures, p.1) (fits t.amount _ p.0 (table_rate_most t t.pnpa_years)),
-      rw (c.of_units.ensures, upper.1) (fits t.amount _ p.0 (table_rate_most t _)),
+      rw (c.of_units-own.ensures, c.units-units.ensures, p.1) (fits t.amount _ p.0 (table_rate_most t t.pnpa_years)),
+      rw (c.of_units.ensures, c.units-units.ensures, upper.1) (fits t.amount _ p.0 (table_rate_most t _)),
     )

@@ -4,7 +4,7 @@ use Rattle.std.proofs.lemmas.List.{length-take, length-drop, length-replicate}
 use Rattle.std.proofs.lemmas.Slice.{take-put_mid}
 use borrow.Rule.Slice.PartMut.{mid_of}
 use Rattle.figures.specs.Elapsed.{with_run}
-use Rattle.figures.proofs.Runs.{run_that_fits}
+use Rattle.figures.proofs.MarkRuns.{run_that_fits}
 use Rattle.figures.proofs.elapsed.Elapsed.push_run.Goals as goal
 
 pub returns : goal.returns

@@ -14,7 +14,7 @@ use Rattle.marks.specs.Numbers.{status_number}
 use Rattle.marks.proofs.StatusOf.{not_lump}
 use Rattle.examination.specs.declared.Examined.{Examined}
 use Rattle.examination.specs.Refusal.{settle_refusal}
-use Rattle.examination.specs.Examine.{ExaminedTold}
+use Rattle.examination.specs.Examine.{ExaminationOf}
 
 module _ (t : Terms) (ms : List ℕ) where
   -- a refusal is one
@@ -26,6 +26,6 @@ module _ (t : Terms) (ms : List ℕ) where
     pub unrefused : (settle_refusal t ms).number ≡ 0
     unrefused = sym (ap (λ (r : RefusedAt). r.number) none)
 
-    pub told_monthly : {e : Examined} → ExaminedTold t ms e → (status_number e.status ≡ 5 → ⊥) → (status_number e.status ≡ 6 → ⊥)
+    pub told_monthly : {e : Examined} → ExaminationOf t ms e → (status_number e.status ≡ 5 → ⊥) → (status_number e.status ≡ 6 → ⊥)
         → 0 < e.election.terms.term
     told_monthly told five other = rw told.terms (not_lump open_months t.term ms (rw told.status at other))
