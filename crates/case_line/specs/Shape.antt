@@ -14,20 +14,20 @@ abbrev pub on_number : Option ℕ → (ℕ → Option Case) → Option Case
 on_number (Some n) next = next n
 on_number None next = None
 
--- the eight fields in their columns; years and months are those of the pension age
+-- the eight fields in their columns
 unfoldable pub fields_of : List ℕ → Option Case
 fields_of line =
     on_number (field_of (columns 1 6 line)) (λ election.
     on_number (field_of (columns 7 9 line)) (λ age.
-    on_number (field_of (columns 10 12 line)) (λ years.
-    on_number (field_of (columns 13 15 line)) (λ months.
+    on_number (field_of (columns 10 12 line)) (λ pnpa_years.
+    on_number (field_of (columns 13 15 line)) (λ pnpa_months.
     on_number (field_of (columns 16 17 line)) (λ option.
     on_number (field_of (columns 18 19 line)) (λ payer.
     on_number (field_of (columns 20 22 line)) (λ term.
     on_number (field_of (columns 23 29 line)) (λ amount.
     Some (record {
       election = election;
-      terms = record { age = age; pnpa_years = years; pnpa_months = months; option = option; payer = payer; term = term; amount = amount };
+      terms = record { age = age; pnpa_years = pnpa_years; pnpa_months = pnpa_months; option = option; payer = payer; term = term; amount = amount };
     })))))))))
 
 -- from 30 the marks: digits, nothing between

@@ -37,16 +37,16 @@ fn read_fields(line: &[u8]) -> Option<Case>
 {
     let election = text::number_in(&line[0..6])?;
     let age = text::number_in(&line[6..9])?;
-    let years = text::number_in(&line[9..12])?;
-    let months = text::number_in(&line[12..15])?;
+    let pnpa_years = text::number_in(&line[9..12])?;
+    let pnpa_months = text::number_in(&line[12..15])?;
     let option = text::number_in(&line[15..17])?;
     let payer = text::number_in(&line[17..19])?;
     let term = text::number_in(&line[19..22])?;
     let amount = text::number_in(&line[22..29])?;
     let terms = Terms {
         age,
-        pnpa_years: years,
-        pnpa_months: months,
+        pnpa_years,
+        pnpa_months,
         option,
         payer,
         term,

@@ -47,7 +47,7 @@ module _ (round : ℕ → ℕ → ℕ) (half : WithinHalf round) where
         let u = c.lower.units * c.lower.unit in
         let most = both_tables c sound (λ p. credit_in round p marks ≤ u)
         (λ p term unit units short falling. rw (← unit, ← units) (table_most p short falling marks (rw term fits))) in
-        combined_most round half c.odd _ _ u (omega (arith, sound.odd_most)) most.0 most.1
+        combined_most round half c.odd_months _ _ u (omega (arith, sound.odd_most)) most.0 most.1
 
   table_full : (p : Purchase) → p.term ≤ longest_term → Falling p → 0 < p.term → credit_in round p (replicate (months_in_year * p.term) 1) ≡ p.units * p.unit
   unfolding credit_in credit_over
@@ -72,6 +72,6 @@ module _ (round : ℕ → ℕ → ℕ) (half : WithinHalf round) where
       let marks : List ℕ = replicate (months_in_year * c.lower.term) 1 in
       let full = both_tables c sound (λ p. credit_in round p marks ≡ u)
       (λ p term unit units short falling. rw (← term, ← unit, ← units) (table_full p short falling (omega arith))) in
-      let l : c.odd ≤ 12 = omega (arith, sound.odd_most) in
-      le_antisymm (combined_most round half c.odd _ _ u l (omega (arith, full.0)) (λ odd. omega (arith, full.1 odd)))
-      (combined_least round half c.odd _ _ u l (omega (arith, full.0)) (λ odd. omega (arith, full.1 odd)))
+      let l : c.odd_months ≤ 12 = omega (arith, sound.odd_most) in
+      le_antisymm (combined_most round half c.odd_months _ _ u l (omega (arith, full.0)) (λ odd. omega (arith, full.1 odd)))
+      (combined_least round half c.odd_months _ _ u l (omega (arith, full.0)) (λ odd. omega (arith, full.1 odd)))

@@ -38,12 +38,12 @@ blend_within round half m lo hi h x y l a b =
 
 pub distance : (round : ℕ → ℕ → ℕ) → WithinHalf round → Monotone round → (c : Purchases) → SoundPurchases c
     → (marks : List ℕ) → length marks ≤ months_in_year * c.lower.term → (rest : List Bool) → paid_flags marks ≡ true ∷ rest
-    → Within (credit_by round c marks) (exact_credit_by c marks) (half_pence c.odd (run_count marks))
+    → Within (credit_by round c marks) (exact_credit_by c marks) (half_pence c.odd_months (run_count marks))
 distance round half mono c sound marks fits rest begins =
     let h = 2 * (2 * run_count marks - 1) in
     let near = both_tables c sound (λ p. Within (credit_in round p marks) (exact_credit p marks) h)
     (λ p term unit units short falling. table_distance round half p short falling mono marks rest begins (rw term fits)) in
-    by_test (eqb c.odd 0) (λ whole. rw whole (widen _ (omega arith) near.0))
+    by_test (eqb c.odd_months 0) (λ whole. rw whole (widen _ (omega arith) near.0))
     (λ odd. rw odd
-    (widen _ (omega arith) (blend_within round half c.odd _ _ h _ _ (omega (arith, sound.odd_most)) near.0
-    (near.1 (omega (arith, eqb-false c.odd 0 odd))))))
+    (widen _ (omega arith) (blend_within round half c.odd_months _ _ h _ _ (omega (arith, sound.odd_most)) near.0
+    (near.1 (omega (arith, eqb-false c.odd_months 0 odd))))))

@@ -8,12 +8,12 @@ use native.Mathlib.Nat.{mul-le-mul_left, le_of_mul-le-mul_right, div-mul_cancel}
 use native.Mathlib.Omega.{arith}
 use lib.ListN.{length}
 use Rattle.common.specs.Calendar.{months_in_year}
-use Rattle.years.specs.Years.{Purchase, own_contribution, year_credit, Falling}
+use Rattle.years.specs.Years.{Purchase, own_contribution, year_credit, Falling, month_numerator}
 use Rattle.credit.specs.Months.{sum_over_paid_from}
 use Rattle.years.proofs.Years.{year_none, year_within}
 use Rattle.distance.specs.Exact.{exact_year, exact_month, exact_from}
 use Rattle.distance.proofs.Denominator.{IsOver, none_is, plus_is, minus_is, divided_is, product, product_positive, divides_product}
-use Rattle.distance.proofs.Numerator.{numerator_by, numerator_step}
+use Rattle.distance.proofs.Numerator.{numerator_step}
 
 -- one denominator for all years of a table
 pub denominator : Purchase → ℕ
@@ -68,7 +68,7 @@ module _ (p : Purchase) (falling : Falling p) where
   exact_rises zero h = omega arith
   exact_rises (suc n) h = mul-le-mul_left (p.unit * own_contribution p) (falling.falls (suc n) (omega arith) h)
 
-  pub over_step : (i : ℕ) → i < months_in_year * p.term → numerator_by (exact_over p) i + month_over p i ≡ numerator_by (exact_over p) (suc i)
+  pub over_step : (i : ℕ) → i < months_in_year * p.term → month_numerator (exact_over p) i + month_over p i ≡ month_numerator (exact_over p) (suc i)
   over_step i h = omega (arith, numerator_step (exact_over p) i, over_rises (i / 12) (omega arith))
 
   pub exact_is : (ps : List Bool) (i : ℕ) → i + length ps ≤ months_in_year * p.term

@@ -5,7 +5,7 @@ use mathlib.Core.Path.{◌≡◌, ap, ◌∙◌}
 use Prim.Native.Nat.{ℕ, suc, ◌*◌, ◌/◌, ◌%◌, ◌≤◌, ◌<◌}
 use native.Mathlib.Nat.{mul-le-mul_right}
 use native.Mathlib.Omega.{arith}
-use lib.ListN.{length}
+use lib.ListN.{length, get_or}
 use Rattle.common.specs.Calendar.{months_in_year}
 use Rattle.scheme.specs.Scheme.{longest_term}
 use Rattle.rounding.specs.Rounding.{WithinHalf, Monotone}
@@ -15,15 +15,14 @@ use Rattle.credit.specs.Credit.{credit_over, credit_in}
 use Rattle.credit.specs.Months.{growth, sum_over_paid}
 use Rattle.years.proofs.Years.{row_year, year_rises}
 use Rattle.credit.proofs.Months.{by_months}
-use Rattle.distance.proofs.Numerator.{numerator_by, numerator_rises}
+use Rattle.distance.proofs.Numerator.{numerator_rises}
 
 module _ (round : ℕ → ℕ → ℕ) (p : Purchase) (short : p.term ≤ longest_term) where
   -- its numerator goes by the years
-  numerator_is : (i : ℕ) → month_numerator (year_credits round p) i ≡ numerator_by (year_credit round p) i
-  unfolding month_numerator
+  numerator_is : (i : ℕ) → month_numerator (λ n. get_or (year_credits round p) n 0) i ≡ month_numerator (year_credit round p) i
   numerator_is i = rw (row_year round p short (i / 12), row_year round p short (suc (i / 12)))
 
-  pub by_numerator : (i : ℕ) → month_value round (year_credits round p) i ≡ round (numerator_by (year_credit round p) i) 12
+  pub by_numerator : (i : ℕ) → month_value round (year_credits round p) i ≡ round (month_numerator (year_credit round p) i) 12
   unfolding month_value
   by_numerator i = ap (λ (n : ℕ). round n 12) (numerator_is i)
 
@@ -41,7 +40,7 @@ module _ (round : ℕ → ℕ → ℕ) (mono : Monotone round) (p : Purchase) (s
       → month_value round (year_credits round p) a ≤ month_value round (year_credits round p) b
   month_rises a b h l =
       rw (by_numerator round p short a, by_numerator round p short b)
-      (mono.keeps (numerator_by (year_credit round p) a) 12 (numerator_by (year_credit round p) b) 12 (omega arith) (omega arith)
+      (mono.keeps (month_numerator (year_credit round p) a) 12 (month_numerator (year_credit round p) b) 12 (omega arith) (omega arith)
       (mul-le-mul_right 12 (numerator_rises (year_credit round p) p.term (year_rises round mono p falling) a b h l)))
 
   -- so not from a month to the next

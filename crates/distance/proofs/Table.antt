@@ -20,7 +20,7 @@ use Rattle.distance.specs.Exact.{exact_credit}
 use Rattle.distance.specs.Distance.{Within}
 use Rattle.distance.proofs.Denominator.{close_within}
 use Rattle.distance.proofs.Exact.{denominator, share, exact_over, month_over, denominator_positive, over_exact, over_step, exact_is}
-use Rattle.distance.proofs.Numerator.{numerator_by}
+use Rattle.years.specs.Years.{month_numerator}
 use Rattle.distance.proofs.Months.{by_numerator, month_year, next_rises, credit_by_months}
 use Rattle.distance.proofs.Near.{Close, blend_near, near_first}
 
@@ -38,7 +38,7 @@ module _ (round : ℕ → ℕ → ℕ) (half : WithinHalf round) (p : Purchase) 
             le_of_mul-le-mul_right (omega (arith, mul-le-mul_left (denominator p) (half.below q (p.rate n) r))) r,
           )
 
-  month_near : (i : ℕ) → Close (12 * denominator p * month_value round (year_credits round p) i) (numerator_by (exact_over p) i) (12 * denominator p)
+  month_near : (i : ℕ) → Close (12 * denominator p * month_value round (year_credits round p) i) (month_numerator (exact_over p) i) (12 * denominator p)
   month_near i =
       let n = i / 12 in
       let year = year_credit round p in
@@ -54,8 +54,8 @@ module _ (round : ℕ → ℕ → ℕ) (half : WithinHalf round) (p : Purchase) 
   table_distance mono marks rest e h =
       let l : length (true ∷ rest) ≤ months_in_year * p.term = omega (arith, length_paid marks, ap length e) in
       let none : month_value round (year_credits round p) 0 ≡ 0 = month_year round half p short 0 ∙ year_none round p in
-      let none' : numerator_by (exact_over p) 0 ≡ 0 = omega (arith, year_none (share p) p) in
-      let near = near_first (month_value round (year_credits round p)) (numerator_by (exact_over p)) (month_over p) (12 * denominator p)
+      let none' : month_numerator (exact_over p) 0 ≡ 0 = omega (arith, year_none (share p) p) in
+      let near = near_first (month_value round (year_credits round p)) (month_numerator (exact_over p)) (month_over p) (12 * denominator p)
       (months_in_year * p.term) (next_rises round mono p short falling) (over_step p falling) (λ i g. month_near i) none none' (true ∷ rest) l in
       let bound : 2 * (2 * suc (starts_after true rest) - 1) ≡ 4 * starts_after true rest + 2 = omega arith in
       rw (credit_by_months round mono p short falling marks h, e, bound)

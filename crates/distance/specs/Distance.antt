@@ -23,26 +23,26 @@ half_pence odd k = 2 * (2 * k - 1) + pick (eqb odd 0) 0 1
 -- What a monthly contract buys: the odd months of its pension age, the purchase in the only or lower table, and that in the upper, which
 -- counts only with odd months.
 pub record Purchases : Type 0 where
-  pub odd : ℕ
+  pub odd_months : ℕ
   pub lower : Purchase
   pub upper : Purchase
 
 -- The credit in whole pence: the only table's, or with odd months the rounded blend of both tables'.
 abbrev pub credit_by : (round : ℕ → ℕ → ℕ) → Purchases → (marks : List ℕ) → ℕ
-credit_by round c marks = combine_by round c.odd (credit_in round c.lower marks) (credit_in round c.upper marks)
+credit_by round c marks = combine_by round c.odd_months (credit_in round c.lower marks) (credit_in round c.upper marks)
 
 -- The exact credit: the same with nothing rounded.
 abbrev pub exact_credit_by : Purchases → (marks : List ℕ) → Fraction
 exact_credit_by c marks =
-    pick (eqb c.odd 0) (exact_credit c.lower marks)
-    (exact_blend c.odd (exact_credit c.lower marks) (exact_credit c.upper marks))
+    pick (eqb c.odd_months 0) (exact_credit c.lower marks)
+    (exact_blend c.odd_months (exact_credit c.lower marks) (exact_credit c.upper marks))
 
 -- What the theorems ask: odd months below 12, a term that is not too long, falling rates, the same term, unit and units in both tables.
 pub record SoundPurchases (c : Purchases) : Type 0 where
-  pub odd_most : c.odd < months_in_year
+  pub odd_most : c.odd_months < months_in_year
   pub term_most : c.lower.term ≤ longest_term
   pub lower_falls : Falling c.lower
-  pub upper_falls : 0 < c.odd → Falling c.upper
+  pub upper_falls : 0 < c.odd_months → Falling c.upper
   pub same_term : c.upper.term ≡ c.lower.term
   pub same_unit : c.upper.unit ≡ c.lower.unit
   pub same_units : c.upper.units ≡ c.lower.units

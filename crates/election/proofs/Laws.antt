@@ -20,7 +20,7 @@ use Rattle.terms.specs.declared.Terms.{Terms}
 use Rattle.terms.specs.Rate.{rate_for, table_rate}
 use Rattle.terms.specs.Rules.{wrong_option, wrong_pension_age, wrong_term, wrong_amount, above_cap, refusal_of}
 use Rattle.terms.proofs.Laws.{terms_rules_pass, price_rules_pass, none_refuses, monthly_rate, lower_rate_some, upper_rate_some}
-use Rattle.election.specs.Price.{contribution_at, contribution_in, contribution_of}
+use Rattle.election.specs.Contribution.{contribution_at, contribution_in, contribution_of}
 use Rattle.election.specs.LookedUp.{upper_rate}
 use Rattle.election.specs.TermsAccepted.{PensionAgeIn, TermsAccepted}
 
@@ -55,8 +55,8 @@ terms_accepted t existing e =
       option_high = option.1;
       pension_age = pension_age_in t terms.pension_age;
       term_high = ltb-false _ _ terms.term;
-      lower_rate = lower_rate_some t price.rate;
-      upper_rate = upper_rate_some t price.rate price.upper;
+      lower_printed = lower_rate_some t price.rate;
+      upper_printed = upper_rate_some t price.rate price.upper;
       amount_low = ltb-false _ _ amount.0;
       whole = omega arith;
       under_cap = ltb-false _ _ price.cap;
@@ -101,8 +101,8 @@ accepted_alone t existing a =
       option_high = a.option_high;
       pension_age = a.pension_age;
       term_high = a.term_high;
-      lower_rate = a.lower_rate;
-      upper_rate = a.upper_rate;
+      lower_printed = a.lower_printed;
+      upper_printed = a.upper_printed;
       amount_low = a.amount_low;
       whole = a.whole;
       under_cap = omega (arith, a.under_cap);
@@ -137,8 +137,8 @@ module _ (t : Terms) (existing : ℕ) (a : TermsAccepted t existing) where
   pub contribution_least : 1 ≤ contribution_of t
   unfolding contribution_of contribution_in contribution_at
   contribution_least =
-      combine_least t.pnpa_months _ _ 1 (omega (arith, a.pension_age.months_high)) (own t.pnpa_years a.lower_rate)
-      (λ odd. own (t.pnpa_years + 1) (a.upper_rate (λ z. omega arith)))
+      combine_least t.pnpa_months _ _ 1 (omega (arith, a.pension_age.months_high)) (own t.pnpa_years a.lower_printed)
+      (λ odd. own (t.pnpa_years + 1) (a.upper_printed (λ z. omega arith)))
     where
       own : (p : ℕ) → 0 < table_rate t p → 1 ≤ contribution_in t p
       own p there = mul-pos (omega (arith, a.amount_low)) there

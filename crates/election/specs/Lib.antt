@@ -1,3 +1,3 @@
-pub mod Price
+pub mod Contribution
 pub mod LookedUp
 pub mod TermsAccepted

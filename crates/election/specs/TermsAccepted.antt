@@ -18,8 +18,8 @@ pub record TermsAccepted (t : Terms) (existing : ℕ) : Type 0 where
   pub option_high : t.option ≤ 2
   pub pension_age : PensionAgeIn t
   pub term_high : t.term ≤ longest_term
-  pub lower_rate : 0 < table_rate t t.pnpa_years
-  pub upper_rate : (t.pnpa_months ≡ 0 → ⊥) → 0 < table_rate t (t.pnpa_years + 1)
+  pub lower_printed : 0 < table_rate t t.pnpa_years
+  pub upper_printed : (t.pnpa_months ≡ 0 → ⊥) → 0 < table_rate t (t.pnpa_years + 1)
   pub amount_low : step_pounds ≤ t.amount
   pub whole : units_of t * step_pounds ≡ t.amount
   pub under_cap : existing + pounds_in_pence t.amount ≤ cap_pence

@@ -1,4 +1,4 @@
-// The rates that the terms of an election go by, the first rule that refuses them, and what they cost.
+// The rates that the terms of an election go by, the first rule that refuses them, and their contribution.
 #![tactic(auto)]
 
 ghost use Rattle.std.specs.Prelude.{◌≡◌, ◌+◌, ◌≤◌, IfOk};
@@ -8,7 +8,7 @@ ghost use Rattle.money.specs.Contribution.{contribution};
 ghost use Rattle.terms.specs.Rate.{table_rate};
 ghost use Rattle.terms.specs.Rules.{wrong_amount, above_cap, refusal_of};
 ghost use Rattle.terms.specs.RefusalParts.{rate_refusal, amount_refusal};
-ghost use Rattle.election.specs.Price.{contribution_of};
+ghost use Rattle.election.specs.Contribution.{contribution_of};
 ghost use Rattle.election.specs.LookedUp.{if_printed, rates_of};
 ghost use Rattle.election.specs.TermsAccepted.{TermsAccepted};
 
@@ -78,9 +78,9 @@ impl TableRates {
         }
     }
 
-    // What terms cost whose amount the cap allows, at the rates that are theirs.
-    #[tactic(auto, using(rounding::proofs::Laws::combine_none, rounding::proofs::Laws::combine_odd, crate::proofs::Laws::upper_rate_is, crate::proofs::Laws::upper_rate_none), unfolding(crate::specs::Price::contribution_of, crate::specs::Price::contribution_in, crate::specs::Price::contribution_at))]
-    pub fn cost(self, t: Terms) -> ContributionPence
+    // The contribution of terms whose amount the cap allows, at the rates that are theirs.
+    #[tactic(auto, using(rounding::proofs::Laws::combine_none, rounding::proofs::Laws::combine_odd, crate::proofs::Laws::upper_rate_is, crate::proofs::Laws::upper_rate_none), unfolding(crate::specs::Contribution::contribution_of, crate::specs::Contribution::contribution_in, crate::specs::Contribution::contribution_at))]
+    pub fn contribution(self, t: Terms) -> ContributionPence
         requires { (t.amount ≤ cap_pounds) × (self ≡ rates_of t) }
         ensures { result ≡ contribution (contribution_of t) }
     {
@@ -115,11 +115,11 @@ impl Election {
         Ok(Election { terms: t, rates })
     }
 
-    // What it costs.
-    pub fn cost(self) -> ContributionPence
+    // What it is bought with: a month's contribution, or the lump sum.
+    pub fn contribution(self) -> ContributionPence
         ensures { result ≡ contribution (contribution_of self.terms) }
     {
-        self.rates.cost(self.terms)
+        self.rates.contribution(self.terms)
     }
 }
 

@@ -29,32 +29,32 @@ module _ (t : Terms) (ms : List ℕ) where
   unfolding settle_refusal
   refused_by_marks h = rw (eq-eqb _ _ h)
 
-  pub terms_unrefused : (settle_refusal t ms).number ≡ 0 → refusal_of t 0 ≡ 0
+  pub terms_unrefused : (settle_refusal t ms).refusal ≡ 0 → refusal_of t 0 ≡ 0
   terms_unrefused z = go (ℕ_discrete (refusal_of t 0) 0)
     where
       go : Dec (refusal_of t 0 ≡ 0) → refusal_of t 0 ≡ 0
       go (yes h) = h
-      go (no h) = sym (ap (λ (r : RefusedAt). r.number) (refused_by_terms h)) ∙ z
+      go (no h) = sym (ap (λ (r : RefusedAt). r.refusal) (refused_by_terms h)) ∙ z
 
-  pub settled_terms : (settle_refusal t ms).number ≡ 0 → TermsAccepted t 0
+  pub settled_terms : (settle_refusal t ms).refusal ≡ 0 → TermsAccepted t 0
   settled_terms z = terms_accepted t 0 (terms_unrefused z)
 
-  pub settled_marks : (settle_refusal t ms).number ≡ 0 → LawfulFor open_months t.term ms
+  pub settled_marks : (settle_refusal t ms).refusal ≡ 0 → LawfulFor open_months t.term ms
   settled_marks z =
-      marks_lawful open_months t.term ms (sym (ap (λ (r : RefusedAt). r.number) (refused_by_marks (terms_unrefused z))) ∙ z)
+      marks_lawful open_months t.term ms (sym (ap (λ (r : RefusedAt). r.refusal) (refused_by_marks (terms_unrefused z))) ∙ z)
 
   -- nothing refused has no place
-  pub unrefused_place : (settle_refusal t ms).number ≡ 0 → (settle_refusal t ms).place ≡ 0
+  pub unrefused_place : (settle_refusal t ms).refusal ≡ 0 → (settle_refusal t ms).place ≡ 0
   unrefused_place z =
       ap (λ (r : RefusedAt). r.place)
       (refused_by_marks (terms_unrefused z) ∙ marks_unrefused open_months t.term ms (settled_marks z))
 
   -- no more marks than the longest term has
-  pub settled_few : (settle_refusal t ms).number ≡ 0 → length ms ≤ most_marks
+  pub settled_few : (settle_refusal t ms).refusal ≡ 0 → length ms ≤ most_marks
   settled_few z = omega (arith, (settled_marks z).few, (settled_terms z).term_high)
 
   -- the first of marks that are not refused are not refused
-  pub refusal_take : (settle_refusal t ms).number ≡ 0 → (i : ℕ) → (settle_refusal t (take i ms)).number ≡ 0
+  pub refusal_take : (settle_refusal t ms).refusal ≡ 0 → (i : ℕ) → (settle_refusal t (take i ms)).refusal ≡ 0
   unfolding settle_refusal
   refusal_take z i =
       rw (eq-eqb _ _ (terms_unrefused z), marks_unrefused open_months t.term (take i ms) (lawful_for_take open_months t.term ms i (settled_marks z)))

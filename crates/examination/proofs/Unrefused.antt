@@ -18,13 +18,13 @@ use Rattle.examination.specs.Examine.{ExaminationOf}
 
 module _ (t : Terms) (ms : List ℕ) where
   -- a refusal is one
-  pub refusal_stands : (e : Refused) → refusing (refusal_number e.refusal) e.place ≡ settle_refusal t ms → (settle_refusal t ms).number ≡ 0 → ⊥
-  refusal_stands e is z = omega (arith, refusal_positive e.refusal, ap (λ (r : RefusedAt). r.number) is, z)
+  pub refusal_stands : (e : Refused) → refusing (refusal_number e.refusal) e.place ≡ settle_refusal t ms → (settle_refusal t ms).refusal ≡ 0 → ⊥
+  refusal_stands e is z = omega (arith, refusal_positive e.refusal, ap (λ (r : RefusedAt). r.refusal) is, z)
 
   module _ (none : refusing 0 0 ≡ settle_refusal t ms) where
     -- and where there is none, nothing is refused
-    pub unrefused : (settle_refusal t ms).number ≡ 0
-    unrefused = sym (ap (λ (r : RefusedAt). r.number) none)
+    pub unrefused : (settle_refusal t ms).refusal ≡ 0
+    unrefused = sym (ap (λ (r : RefusedAt). r.refusal) none)
 
     pub told_monthly : {e : Examined} → ExaminationOf t ms e → (status_number e.status ≡ 5 → ⊥) → (status_number e.status ≡ 6 → ⊥)
         → 0 < e.election.terms.term

@@ -71,7 +71,7 @@ fn print_settle(rt: &impl Print, on: On, runs: &[MarkRun]) -> io::Result<()> {
 }
 
 // Refusal, place.
-fn schedule_numbers(answer: Result<(), Refused>) -> (u32, usize) {
+fn schedule_columns(answer: Result<(), Refused>) -> (u32, usize) {
     match answer {
         Err(e) => (e.refusal.number(), e.place),
         Ok(()) => (0, 0),
@@ -94,7 +94,7 @@ fn print_schedule(rt: &impl Print, on: On, runs: &[MarkRun], entries: usize) -> 
     };
     let elapsed = Elapsed::of_runs(runs);
     let answer = schedule::schedule(Terms::from(on), elapsed.as_slice(), lent);
-    let (refusal, place) = schedule_numbers(answer);
+    let (refusal, place) = schedule_columns(answer);
     let asked = MarkRuns(runs);
     print!(rt; "schedule {on}{asked} {entries} is refusal {refusal} place {place} entries")?;
     print_entries(rt, lent)

@@ -13,9 +13,9 @@ use Rattle.reduction.specs.Answer.{ReductionNumbers, reduction_limit_of}
 use Rattle.number_bytes.specs.Bytes.{in_bytes}
 
 -- the terms that a call's numbers stand for
-abbrev pub terms_of : (age years months option payer term amount : ℕ) → Terms
-terms_of age years months option payer term amount =
-    record { age = age; pnpa_years = years; pnpa_months = months; option = option; payer = payer; term = term; amount = amount }
+abbrev pub terms_of : (age pnpa_years pnpa_months option payer term amount : ℕ) → Terms
+terms_of age pnpa_years pnpa_months option payer term amount =
+    record { age = age; pnpa_years = pnpa_years; pnpa_months = pnpa_months; option = option; payer = payer; term = term; amount = amount }
 
 -- the application that a call's numbers stand for
 abbrev pub application_of : (npa age pay erf1 erf2 erf3 existing limit : ℕ) → Application

@@ -15,7 +15,7 @@ use Rattle.marks.specs.Counts.{last_or, paid_months, paid_through, final_gap}
 use Rattle.marks.specs.Lawful.{Lawful, FirstBad}
 use Rattle.refusals.specs.Places.{refusing}
 use Rattle.marks.specs.Refusal.{mark_refusal, first_refusal}
-use Rattle.marks.specs.Reading.{refused_of, next_refusal_of, count_mark, step_by, step_of, read_on, reading_of, counts_of}
+use Rattle.marks.specs.Reading.{refused_reading, next_refusal_of, count_mark, step_by, step_of, read_on, reading_of, counts_of}
 use Rattle.marks.proofs.Lists.{by_the_last, length_last}
 use Rattle.marks.proofs.Counts.{counts_missed, counts_paid, counts_ended}
 use Rattle.marks.proofs.Lawful.{Follows, follows_lawful, lawful_follows, none_lawful}
@@ -27,7 +27,7 @@ module _ (open_months : ℕ) where
   data Next (ms : List ℕ) (m : ℕ) : Type 0 where
     goes_on : Follows open_months ms m → mark_refusal open_months ms m ≡ 0
         → step_of (counts_of open_months ms) m ≡ counts_of open_months (ms ++ (m ∷ [])) → Next ms m
-    is_bad : (n : ℕ) → mark_refusal open_months ms m ≡ n → step_of (counts_of open_months ms) m ≡ refused_of n (length ms)
+    is_bad : (n : ℕ) → mark_refusal open_months ms m ≡ n → step_of (counts_of open_months ms) m ≡ refused_reading n (length ms)
         → (Follows open_months ms m → ⊥) → ((n ≡ 11) × (2 < m)) ⊎ ((n ≡ 12) × (m ≤ 2)) → Next ms m
 
   next : (ms : List ℕ) (m : ℕ) → Next ms m
@@ -58,7 +58,7 @@ module _ (open_months : ℕ) where
   -- with a mark more at the end, the first bad one is what it was, or that mark
   refusal_on : (before ms : List ℕ) (m : ℕ)
       → first_refusal open_months before (ms ++ (m ∷ []))
-      ≡ pick (eqb (first_refusal open_months before ms).number 0) (first_refusal open_months (before ++ ms) (m ∷ []))
+      ≡ pick (eqb (first_refusal open_months before ms).refusal 0) (first_refusal open_months (before ++ ms) (m ∷ []))
       (first_refusal open_months before ms)
   unfolding first_refusal
   refusal_on before [] m = rw append-nil
@@ -78,14 +78,14 @@ module _ (open_months : ℕ) where
   pub data ReadOutcome (ms : List ℕ) : Type 0 where
     all_lawful : Lawful open_months ms → first_refusal open_months [] ms ≡ refusing 0 0
         → reading_of open_months ms ≡ counts_of open_months ms → ReadOutcome ms
-    one_bad : (n i : ℕ) → first_refusal open_months [] ms ≡ refusing n i → reading_of open_months ms ≡ refused_of n i
+    one_bad : (n i : ℕ) → first_refusal open_months [] ms ≡ refusing n i → reading_of open_months ms ≡ refused_reading n i
         → FirstBad open_months ms n i → ReadOutcome ms
 
   -- the number of a bad mark is one
   pub bad_number : (ms : List ℕ) (n i : ℕ) → FirstBad open_months ms n i → 0 < n
   bad_number ms n i b = ⊎_elim (λ p. omega (arith, p.0)) (λ p. omega (arith, p.0)) b.number
 
-  reading_stays : (ms : List ℕ) (n i m : ℕ) → FirstBad open_months ms n i → step_of (refused_of n i) m ≡ refused_of n i
+  reading_stays : (ms : List ℕ) (n i m : ℕ) → FirstBad open_months ms n i → step_of (refused_reading n i) m ≡ refused_reading n i
   unfolding step_by
   reading_stays ms n i m b = rw (lt-ltb 0 n (bad_number ms n i b))
 

@@ -15,6 +15,7 @@ use Rattle.rates.proofs.Laws.{lump_printed, lump_shown, lump_none, lump_above}
 use Rattle.terms.specs.declared.Terms.{Terms}
 use Rattle.terms.specs.Rules.{missing_upper}
 use Rattle.terms.proofs.Laws.{upper_there}
+use Rattle.terms.specs.Printed.{LacksLumpSum}
 use Rattle.terms.proofs.Printed.{upper_missing, missing_upper_lem}
 use Rattle.election.specs.TermsAccepted.{TermsAccepted}
 use Rattle.marks.specs.Status.{status_of}
@@ -23,7 +24,7 @@ use Rattle.settlement.specs.Settle.{SettleNumbers, settle_of}
 use Rattle.settlement.proofs.Laws.{settle_settled, settle_refusal_lem}
 use Rattle.settlement.proofs.Bounds.{settle_credit_most}
 use Rattle.pay_off.specs.PayOff.{PayOffNumbers, least_increase, most_increase, nothing_to_pay_off, wrong_increase, lump_sum_now, no_lump_sum_now, contract_refusal, contract_pay_off, pay_off_of}
-use Rattle.pay_off.specs.Clauses.{PayOffPriced, LacksLumpSum, StatusPayable, IncreaseTaken, PayOffRefusals}
+use Rattle.pay_off.specs.Clauses.{PayOffPriced, StatusPayable, IncreaseTaken, PayOffRefusals}
 use Rattle.pay_off.proofs.Costs.{increased_least, increased_none, price_least, price_none}
 use Rattle.pay_off.proofs.Contract.{contract_passes}
 use Rattle.pay_off.proofs.Complete.{complete_credit}

@@ -17,8 +17,8 @@ use Rattle.terms.proofs.Laws.{lump_rate}
 use Rattle.election.specs.declared.TableRates.{TableRates}
 use Rattle.election.specs.LookedUp.{rates_of}
 use Rattle.election.proofs.Laws.{upper_rate_odd}
-use Rattle.pay_off.specs.Sums.{SumsLookedUp, or_none, upper_or_none}
-use Rattle.pay_off.specs.Price.{increased_by}
+use Rattle.pay_off.specs.LumpSumsNow.{SumsLookedUp, sum_or_none, upper_sum_or_none}
+use Rattle.pay_off.specs.Cost.{increased_by}
 use Rattle.pay_off.specs.PayOff.{PayOffNumbers, least_increase, most_increase, nothing_to_pay_off, wrong_increase, lump_sum_now, no_lump_sum_now, contract_refusal, refused_pay_off, remaining_of, priced_pay_off, contract_pay_off}
 use Rattle.pay_off.proofs.Costs.{price_upper}
 
@@ -98,11 +98,11 @@ module _ (t : Terms) (status age_now increase : ℕ) where
 
 -- the price at the lump sums that were looked up
 pub price_is : (t : Terms) (credit age_now increase : ℕ) {sums : TableRates} → SumsLookedUp t age_now sums
-    → priced_pay_off t credit sums.lower (upper_or_none sums) increase ≡ priced_pay_off t credit (lower t age_now) (upper t age_now) increase
+    → priced_pay_off t credit sums.lower (upper_sum_or_none sums) increase ≡ priced_pay_off t credit (lower t age_now) (upper t age_now) increase
 price_is t credit age_now increase {sums} found =
     rw (
       found.low,
-      price_upper (increased_by increase (remaining_of t credit)) (lower t age_now) (upper_or_none sums) (upper t age_now) t.pnpa_months found.high,
+      price_upper (increased_by increase (remaining_of t credit)) (lower t age_now) (upper_sum_or_none sums) (upper t age_now) t.pnpa_months found.high,
     )
 
 -- an election by lump sum at the age now is refused for its rates just where the contract lacks a lump sum
@@ -116,6 +116,6 @@ sums_are t age_now e =
     record {
       low = ap (λ (r : TableRates). r.lower) e ∙ lump_rate (at_age t age_now) t.pnpa_years refl;
       high = λ odd.
-          ap (λ (r : TableRates). upper_or_none r) e ∙ ap or_none (upper_rate_odd (at_age t age_now) odd)
+          ap (λ (r : TableRates). upper_sum_or_none r) e ∙ ap sum_or_none (upper_rate_odd (at_age t age_now) odd)
           ∙ lump_rate (at_age t age_now) (t.pnpa_years + 1) refl;
     }

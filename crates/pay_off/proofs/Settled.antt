@@ -19,7 +19,7 @@ module _ (t : Terms) (ms : List ℕ) where
   -- the same refusal, and the same place
   module _ (e : Refused) (is : refusing (refusal_number e.refusal) e.place ≡ settle_refusal t ms) where
     pub same_refusal : refusal_number e.refusal ≡ (settle_of t ms).refusal
-    same_refusal = ap (λ (r : RefusedAt). r.number) is ∙ sym (settle_refusal_lem t ms)
+    same_refusal = ap (λ (r : RefusedAt). r.refusal) is ∙ sym (settle_refusal_lem t ms)
 
     pub same_place : e.place ≡ (settle_of t ms).place
     same_place =

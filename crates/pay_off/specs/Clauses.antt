@@ -2,9 +2,8 @@
 -- Assumes nothing.
 use Rattle.std.specs.Prelude.{List, ◌⊎◌, ◌≡◌, ℕ, ◌+◌, ◌≤◌, ◌<◌}
 use Rattle.scheme.specs.Scheme.{pounds_in_pence}
-use Rattle.rates.specs.Rates.{LumpPrinted}
 use Rattle.terms.specs.declared.Terms.{Terms}
-use Rattle.terms.specs.Printed.{NeededPensionAge}
+use Rattle.terms.specs.Printed.{LacksLumpSum}
 use Rattle.settlement.specs.Settle.{settle_of}
 use Rattle.pay_off.specs.PayOff.{PayOffNumbers, least_increase, most_increase}
 
@@ -18,10 +17,6 @@ pub record PayOffPriced (t : Terms) (marks : List ℕ) (n : PayOffNumbers) : Typ
   pub rises : n.refusal ≡ 0 → (n.remaining ≤ n.increased) × (n.increased ≤ n.cost)
   pub free : n.refusal ≡ 0 → n.cost ≡ 0 → n.remaining ≡ 0
   pub nothing_left : n.refusal ≡ 0 → n.remaining ≡ 0 → n.cost ≡ 0
-
--- for the age now no lump sum is printed at a pension age that is needed
-abbrev pub LacksLumpSum : Terms → (age_now : ℕ) → Type 0
-LacksLumpSum t age_now = (p : ℕ) × (NeededPensionAge t p × (LumpPrinted t.option p age_now → ⊥))
 
 -- a status that can be paid off: paying, in a gap, complete or ceased
 abbrev pub StatusPayable : (status : ℕ) → Type 0

@@ -1,5 +1,5 @@
-pub mod Price
+pub mod Cost
 pub mod PayOff
 pub mod Clauses
 pub mod Bounds
-pub mod Sums
+pub mod LumpSumsNow

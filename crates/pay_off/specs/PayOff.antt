@@ -7,10 +7,10 @@ use Rattle.refusals.specs.declared.Refused.{Refused}
 use Rattle.refusals.specs.Numbers.{refusal_number}
 use Rattle.rates.specs.Rates.{lump_rate_of}
 use Rattle.terms.specs.declared.Terms.{Terms}
-use Rattle.terms.specs.Rules.{missing_upper}
+use Rattle.terms.specs.Rules.{lacks_either}
 use Rattle.settlement.specs.Settle.{settle_of}
 use Rattle.pay_off.specs.declared.PayOff.{PayOff}
-use Rattle.pay_off.specs.Price.{increased_by, price_of}
+use Rattle.pay_off.specs.Cost.{increased_by, cost_of}
 
 -- what a pay-off gives, in document 02's numbers; refusal 0 is none
 pub record PayOffNumbers : Type 0 where
@@ -42,7 +42,7 @@ lump_sum_now t age_now pension_age = lump_rate_of t.option pension_age age_now
 -- 5: none is printed at the only or lower pension age, or at the upper, which odd months need
 unfoldable pub no_lump_sum_now : Terms → (age_now : ℕ) → Bool
 no_lump_sum_now t age_now =
-    eqb (lump_sum_now t age_now t.pnpa_years) 0 || missing_upper t (lump_sum_now t age_now (t.pnpa_years + 1))
+    lacks_either t (lump_sum_now t age_now t.pnpa_years) (lump_sum_now t age_now (t.pnpa_years + 1))
 
 -- what refuses to pay off a contract that Settle accepts: 16, 17, 5, in this order
 unfoldable pub contract_refusal : Terms → (status age_now increase : ℕ) → ℕ
@@ -66,7 +66,7 @@ priced_pay_off t credit lower upper increase =
       place = 0;
       remaining = remaining_of t credit;
       increased = increased;
-      cost = price_of increased lower upper t.pnpa_months;
+      cost = cost_of increased lower upper t.pnpa_months;
     }
 
 -- a contract that Settle accepts, by its status and credit: a refusal, or its price at the age now

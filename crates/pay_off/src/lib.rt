@@ -7,9 +7,9 @@ ghost use Rattle.refusals.specs.Numbers.{is_refused};
 ghost use Rattle.refusals.specs.Parts.{refusal_in};
 ghost use Rattle.money.specs.Contribution.{contribution};
 ghost use Rattle.marks.specs.Numbers.{status_number};
-ghost use Rattle.pay_off.specs.Price.{price_of};
+ghost use Rattle.pay_off.specs.Cost.{cost_of};
 ghost use Rattle.pay_off.specs.PayOff.{most_increase, nothing_to_pay_off, wrong_increase, contract_refusal, priced_pay_off, pay_off_of, priced_numbers, numbers_of_pay_off};
-ghost use Rattle.pay_off.specs.Sums.{SumsLookedUp, upper_or_none};
+ghost use Rattle.pay_off.specs.LumpSumsNow.{SumsLookedUp, upper_sum_or_none};
 ghost use Rattle.pay_off.specs.Clauses.{PayOffPriced, PayOffRefusals};
 
 use election::{Election, TableRates};
@@ -32,10 +32,10 @@ const LEAST_INCREASE: u32 = 1000;
 const MOST_INCREASE: u32 = 9999;
 
 // The cost of an increased pension at the rate between those of two pension ages, which is not rounded.
-#[tactic(auto, unfolding(crate::specs::Price::price_of))]
-pub fn price(increased: PensionPence, lower: u32, upper: u32, months: u32) -> ContributionPence
+#[tactic(auto, unfolding(crate::specs::Cost::cost_of))]
+pub fn cost(increased: PensionPence, lower: u32, upper: u32, months: u32) -> ContributionPence
     requires { (increased.0 < 2 ^ 28) × (months < months_in_year) }
-    ensures { result ≡ contribution (price_of increased.0 lower upper months) }
+    ensures { result ≡ contribution (cost_of increased.0 lower upper months) }
 {
     let unit = PensionPence::of_pounds(scheme::STEP);
     increased.costs(unit, rounding::twelfths(months, lower, upper))
@@ -85,16 +85,16 @@ fn lump_sums_now(
 }
 
 // What a contract lacks beside its credit, and what that costs. A whole pension age weighs no upper lump sum.
-#[tactic(auto, using(crate::proofs::Costs::increased_most), unfolding(crate::specs::Price::increased_by))]
+#[tactic(auto, using(crate::proofs::Costs::increased_most), unfolding(crate::specs::Cost::increased_by))]
 fn priced(e: Election, credit: PensionPence, sums: TableRates, increase: u32) -> PayOff
     requires { increase ≤ most_increase }
-    ensures { priced_numbers result ≡ priced_pay_off e.terms credit.0 sums.lower (upper_or_none sums) increase }
+    ensures { priced_numbers result ≡ priced_pay_off e.terms credit.0 sums.lower (upper_sum_or_none sums) increase }
 {
     let whole = PensionPence::of_pounds(e.terms.amount);
     let remaining = whole.less(credit);
     let increased = remaining.increased(increase);
     let upper = sums.upper.unwrap_or(0);
-    let cost = price(increased, sums.lower, upper, e.terms.pnpa_months);
+    let cost = cost(increased, sums.lower, upper, e.terms.pnpa_months);
     PayOff {
         remaining,
         increased,

@@ -46,7 +46,7 @@ fn post_history(c: &mut Contract, h: History) -> Result<(), Refused> {
 }
 
 // The refusal of an answer and its place; 0 and 0 where it is none.
-fn refusal_of<A: Drop>(answer: &Result<A, Refused>) -> (u32, usize) {
+fn refusal_and_place<A: Drop>(answer: &Result<A, Refused>) -> (u32, usize) {
     match answer {
         Err(e) => (e.refusal.number(), e.place),
         Ok(_) => (0, 0),
@@ -55,7 +55,7 @@ fn refusal_of<A: Drop>(answer: &Result<A, Refused>) -> (u32, usize) {
 
 // The answer to the last posting, then the record as it is left: its count, 1 for a bad one, its credit.
 fn write_outcome(rt: &impl Print, posted: Result<(), Refused>, left: &Contract) -> io::Result<()> {
-    let (refusal, place) = refusal_of(&posted);
+    let (refusal, place) = refusal_and_place(&posted);
     let check = records::check_record(*left);
     let bad = check.is_err() as u8;
     let credit = check.map_or(0, |credit| credit.0);
@@ -117,7 +117,7 @@ fn write_total_of_each(
 ) -> io::Result<()> {
     for n in numbers {
         let total = postings::total_of_first(list, *n);
-        let (refusal, index) = refusal_of(&total);
+        let (refusal, index) = refusal_and_place(&total);
         let credit = total.map_or(0, |credit| credit.0);
         println!(rt; "{n:7}{refusal:28}{index:6}{credit:18}")?;
     }

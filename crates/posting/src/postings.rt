@@ -1,6 +1,6 @@
 // A mark posted a number of times, and the total of the first records of a list.
 ghost use Rattle.std.specs.Prelude.{◌≡◌, replicate, take};
-ghost use Rattle.records.specs.Post.{numbers_of_posting};
+ghost use Rattle.refusals.specs.Places.{refused_in};
 ghost use Rattle.records.specs.History.{posted_all};
 ghost use Rattle.posting.specs.Postings.{last_answer};
 ghost use Rattle.totals.specs.Total.{member_total_of, numbers_of_total};
@@ -16,7 +16,7 @@ pub fn post_times(
     mark: u8,
     n: u8,
 ) -> Result<(), Refused>
-    ensures answer { numbers_of_posting result ≡ last_answer (numbers_of_posting before) c.old (replicate n mark) }
+    ensures answer { refused_in result ≡ last_answer (refused_in before) c.old (replicate n mark) }
     ensures record_left { c.new ≡ posted_all c.old (replicate n mark) }
 {
     let mut last = before;

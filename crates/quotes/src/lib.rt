@@ -33,7 +33,7 @@ pub struct Quoted {
 }
 
 // The last number of a register that is full.
-pub const LAST_NUMBER: u32 = 999999;
+pub const LAST_QUOTE_NUMBER: u32 = 999999;
 
 // The contribution and the next number; or the first of the refusals 1 to 9.
 #[tactic(auto, using(common::proofs::Tests::tests, refusals::proofs::Numbers::refusal_positive), unfolding(crate::specs::Quote::quote_of, crate::specs::Quote::quote_refusal))]
@@ -42,11 +42,11 @@ fn answer(t: Terms, existing: PensionPence, register: Register) -> Result<QuoteM
     ensures refused { is_refused result ≡ ltb 0 (quote_of t existing.0 register.last).refusal }
 {
     let election = Election::new(t, existing)?;
-    if LAST_NUMBER <= register.last {
+    if LAST_QUOTE_NUMBER <= register.last {
         return Err(Refusal::NoNumberLeft);
     }
     Ok(QuoteMade {
-        contribution: election.cost(),
+        contribution: election.contribution(),
         number: register.last + 1,
     })
 }

@@ -23,7 +23,8 @@ use Rattle.examination.proofs.Laws.{settled_marks}
 use Rattle.settlement.proofs.Laws.{settle_refusal_lem}
 use Rattle.records.specs.declared.Contract.{Contract}
 use Rattle.records.specs.Record.{used_marks, bad_record}
-use Rattle.records.specs.Post.{PostNumbers, post_of}
+use Rattle.refusals.specs.Places.{RefusedAt}
+use Rattle.records.specs.Post.{post_of}
 use Rattle.records.proofs.Bad.{not_bad}
 use Rattle.records.proofs.Posting.{marks_with, used_length, bad_answer, marks_answer}
 
@@ -43,11 +44,11 @@ last_bad o ms m n i lawful bad =
     (λ t. omega (arith, ltb-false i (length ms) t, bad.inside, length_last ms m))
 
 -- the count for these two refusals
-abbrev placed : Contract → PostNumbers → ℕ
+abbrev placed : Contract → RefusedAt → ℕ
 placed c p = pick (eqb p.refusal 11 || eqb p.refusal 12) c.count 0
 
 module _ (c : Contract) (m : ℕ) (full : length c.marks ≡ most_marks) where
-  refusal_placed : bad_record c ≡ false → ((marks_refusal open_months c.terms.term (marks_with c m)).number ≡ 0 → ⊥)
+  refusal_placed : bad_record c ≡ false → ((marks_refusal open_months c.terms.term (marks_with c m)).refusal ≡ 0 → ⊥)
       → length (marks_with c m) ≤ months_in_year * c.terms.term → (post_of c m).place ≡ placed c (post_of c m)
   refusal_placed b some few =
       let bad = few_refused open_months c.terms.term (marks_with c m) few some in
@@ -67,9 +68,9 @@ module _ (c : Contract) (m : ℕ) (full : length c.marks ≡ most_marks) where
           by_test (ltb (months_in_year * c.terms.term) (length (marks_with c m)))
           (λ t.
           rw (marks_answer c m b) (rw (too_many_marks open_months c.terms.term (marks_with c m) (ltb-true _ _ t))))
-          (λ t. go (ltb-false _ _ t) (ℕ_discrete (marks_refusal open_months c.terms.term (marks_with c m)).number 0))
+          (λ t. go (ltb-false _ _ t) (ℕ_discrete (marks_refusal open_months c.terms.term (marks_with c m)).refusal 0))
         where
-          go : length (marks_with c m) ≤ months_in_year * c.terms.term → Dec ((marks_refusal open_months c.terms.term (marks_with c m)).number ≡ 0)
+          go : length (marks_with c m) ≤ months_in_year * c.terms.term → Dec ((marks_refusal open_months c.terms.term (marks_with c m)).refusal ≡ 0)
               → (post_of c m).place ≡ placed c (post_of c m)
           go few (no some) = refusal_placed b some few
           go few (yes none) =

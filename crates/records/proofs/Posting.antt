@@ -12,7 +12,6 @@ use Rattle.common.specs.Calendar.{months_in_year}
 use Rattle.common.proofs.Tests.{by_test}
 use Rattle.scheme.specs.Scheme.{open_months, most_marks}
 use Rattle.terms.specs.declared.Terms.{Terms}
-use Rattle.refusals.specs.Places.{RefusedAt}
 use Rattle.marks.specs.Reading.{ReadSoFar, count_up, step_by, marks_reading}
 use Rattle.marks.specs.Refusal.{marks_refusal}
 use Rattle.marks.proofs.Lists.{length_last}
@@ -23,17 +22,18 @@ use Rattle.settlement.proofs.Laws.{settle_refusal_lem, settle_place}
 use Rattle.settlement.proofs.Bounds.{settle_bounds}
 use Rattle.records.specs.declared.Contract.{Contract}
 use Rattle.records.specs.Record.{used_marks, bad_record}
-use Rattle.records.specs.Post.{PostNumbers, settled_with, post_of, with_mark, posted_record}
+use Rattle.refusals.specs.Places.{RefusedAt}
+use Rattle.records.specs.Post.{settled_with, post_of, with_mark, posted_record}
 use Rattle.records.proofs.Bad.{not_bad}
 
-abbrev posted_at : (refusal place : ℕ) → PostNumbers
+abbrev posted_at : (refusal place : ℕ) → RefusedAt
 posted_at n i = record { refusal = n; place = i }
 
 -- terms that Settle accepts with some marks it refuses with others by the marks alone
 module _ (t : Terms) (ms ns : List ℕ) (e : (settle_of t ms).refusal ≡ 0) where
-  by_marks : (settle_of t ns).refusal ≡ (marks_refusal open_months t.term ns).number
+  by_marks : (settle_of t ns).refusal ≡ (marks_refusal open_months t.term ns).refusal
   by_marks =
-      settle_refusal_lem t ns ∙ ap (λ (r : RefusedAt). r.number) (refused_by_marks t ns (terms_unrefused t ms (sym (settle_refusal_lem t ms) ∙ e)))
+      settle_refusal_lem t ns ∙ ap (λ (r : RefusedAt). r.refusal) (refused_by_marks t ns (terms_unrefused t ms (sym (settle_refusal_lem t ms) ∙ e)))
 
   at_marks : (settle_of t ns).place ≡ (marks_refusal open_months t.term ns).place
   at_marks =
@@ -56,7 +56,7 @@ module _ (c : Contract) (m : ℕ) where
   good_answer b = rw b
 
   pub good_refusal : bad_record c ≡ false → (post_of c m).refusal ≡ (settled_with c m).refusal
-  good_refusal b = ap (λ (p : PostNumbers). p.refusal) (good_answer b)
+  good_refusal b = ap (λ (p : RefusedAt). p.refusal) (good_answer b)
 
   -- a posting gives 13 just where the record is bad
   pub thirteen_bad : (post_of c m).refusal ≡ 13 → bad_record c ≡ true
@@ -65,10 +65,10 @@ module _ (c : Contract) (m : ℕ) where
       (λ b. absurd (omega (arith, good_refusal b, (settle_bounds c.terms marks_with).refusal_most)))
 
   pub bad_thirteen : bad_record c ≡ true → (post_of c m).refusal ≡ 13
-  bad_thirteen b = ap (λ (p : PostNumbers). p.refusal) (bad_answer b)
+  bad_thirteen b = ap (λ (p : RefusedAt). p.refusal) (bad_answer b)
 
   pub marks_answer : bad_record c ≡ false
-      → post_of c m ≡ posted_at (marks_refusal open_months c.terms.term marks_with).number (marks_refusal open_months c.terms.term marks_with).place
+      → post_of c m ≡ posted_at (marks_refusal open_months c.terms.term marks_with).refusal (marks_refusal open_months c.terms.term marks_with).place
   marks_answer b =
       good_answer b
       ∙ rw (

@@ -1,17 +1,11 @@
 -- Document 01, "What each operation gives", Post a month.
 -- Assumes nothing.
-use Rattle.std.specs.Prelude.{Result, Ok, Err, [], ◌∷◌, ◌++◌, ℕ, ◌+◌, eqb, set}
+use Rattle.std.specs.Prelude.{[], ◌∷◌, ◌++◌, ℕ, ◌+◌, eqb, set}
 use Rattle.common.specs.Choice.{pick}
-use Rattle.refusals.specs.declared.Refused.{Refused}
-use Rattle.refusals.specs.Numbers.{refusal_number}
+use Rattle.refusals.specs.Places.{RefusedAt, refusing}
 use Rattle.settlement.specs.Settle.{SettleNumbers, settle_of}
 use Rattle.records.specs.declared.Contract.{Contract}
 use Rattle.records.specs.Record.{used_marks, bad_record}
-
--- the refusal of a posting, 0 for success, and its place
-pub record PostNumbers : Type 0 where
-  pub refusal : ℕ
-  pub place : ℕ
 
 -- Settle of the record with a new mark after those in use
 abbrev pub settled_with : Contract → (mark : ℕ) → SettleNumbers
@@ -19,10 +13,9 @@ settled_with c m = settle_of c.terms (used_marks c ++ (m ∷ []))
 
 -- what posting answers: 13 for a bad record; then what Settle refuses with the new mark, and where. Of a record that is not bad that is the
 -- new mark, at the record's count, or 10 with no place (proofs/Place.antt).
-unfoldable pub post_of : Contract → (mark : ℕ) → PostNumbers
+unfoldable pub post_of : Contract → (mark : ℕ) → RefusedAt
 post_of c m =
-    pick (bad_record c) (record { refusal = 13; place = 0 })
-    (record { refusal = (settled_with c m).refusal; place = (settled_with c m).place })
+    pick (bad_record c) (refusing 13 0) (refusing (settled_with c m).refusal (settled_with c m).place)
 
 -- a record in which one mark and the count are written, and nothing else
 abbrev pub with_mark : Contract → (index mark count : ℕ) → Contract
@@ -31,8 +24,3 @@ with_mark c i m n = record { terms = c.terms; marks = set c.marks i m; count = n
 -- the record afterwards: success adds the mark after those in use; a refusal changes nothing
 unfoldable pub posted_record : Contract → (mark : ℕ) → Contract
 posted_record c m = pick (eqb (post_of c m).refusal 0) (with_mark c c.count m (c.count + 1)) c
-
--- document 01's numbers for each case of an answer
-abbrev pub numbers_of_posting : Result (Unit {0}) Refused → PostNumbers
-numbers_of_posting (Err e) = record { refusal = refusal_number e.refusal; place = e.place }
-numbers_of_posting (Ok u) = record { refusal = 0; place = 0 }

@@ -4,7 +4,8 @@
 ghost use Rattle.std.specs.Prelude.{◌≡◌};
 ghost use Rattle.records.specs.Record.{all_zero};
 ghost use Rattle.records.specs.Check.{check_in, check_of};
-ghost use Rattle.records.specs.Post.{numbers_of_posting, post_of, posted_record};
+ghost use Rattle.refusals.specs.Places.{refused_in};
+ghost use Rattle.records.specs.Post.{post_of, posted_record};
 ghost use Rattle.records.specs.History.{fresh_record};
 
 use common::MONTHS_IN_YEAR;
@@ -56,7 +57,7 @@ pub fn check_record(c: Contract) -> Result<PensionPence, Refusal>
 
 // 13 for a bad record; then 10, 11 or 12 as the marks with the new one are refused.
 fn check_posting(c: Contract, mark: u8) -> Result<(), Refused>
-    ensures { numbers_of_posting result ≡ post_of c mark }
+    ensures { refused_in result ≡ post_of c mark }
 {
     check_record(c)?;
     let term = c.terms.term;
@@ -71,7 +72,7 @@ fn check_posting(c: Contract, mark: u8) -> Result<(), Refused>
 
 // Adds one mark to the lent record. Nothing else of it is written than that mark and the count, and those only where the mark is taken.
 pub fn post(c: &mut Contract, mark: u8) -> Result<(), Refused>
-    ensures { (numbers_of_posting result ≡ post_of c.old mark) × (c.new ≡ posted_record c.old mark) }
+    ensures { (refused_in result ≡ post_of c.old mark) × (c.new ≡ posted_record c.old mark) }
 {
     check_posting(*c, mark)?;
     c.marks[c.count] = mark;

@@ -35,12 +35,12 @@ room_takes b existing limit (inr h) = by_test (eqb existing 0) (λ z. rw z) (λ 
 
 -- of n candidates from k on: an age that is given is the first that passes, and with 0 none does
 record FirstFrom (a : Application) (k n age : ℕ) : Type 0 where
-  place : ℕ
-  from : k ≤ place
-  among : place < k + n
-  is : age ≡ candidate_of a place
-  passes : PassingCandidate a place
-  earlier : (j : ℕ) → k ≤ j → j < place → PassingCandidate a j → ⊥
+  candidate : ℕ
+  from : k ≤ candidate
+  among : candidate < k + n
+  is : age ≡ candidate_of a candidate
+  passes : PassingCandidate a candidate
+  earlier : (j : ℕ) → k ≤ j → j < candidate → PassingCandidate a j → ⊥
 
 record Searched (a : Application) (k n age : ℕ) : Type 0 where
   given : (age ≡ 0 → ⊥) → FirstFrom a k n age
@@ -66,7 +66,7 @@ module _ (a : Application) where
       record {
         given = λ z.
             record {
-              place = k;
+              candidate = k;
               from = omega arith;
               among = omega arith;
               is = refl;
@@ -82,7 +82,7 @@ module _ (a : Application) where
         given = λ z.
             let f = s.given z in
             record {
-              place = f.place;
+              candidate = f.candidate;
               from = omega (arith, f.from);
               among = omega (arith, f.among);
               is = f.is;
@@ -109,7 +109,7 @@ module _ (a : Application) where
   given_earliest some =
       let f = (searched 0 3).given some in
       record {
-        place = f.place;
+        candidate = f.candidate;
         among = omega (arith, f.among);
         is = f.is;
         passes = f.passes;
@@ -123,4 +123,4 @@ module _ (a : Application) where
   given_none fails =
       by_test (eqb (earliest_age a) 0)
       (λ e. eqb-true (earliest_age a) 0 e)
-      (λ e. let f = given_earliest (eqb-false (earliest_age a) 0 e) in absurd (fails f.place f.among f.passes))
+      (λ e. let f = given_earliest (eqb-false (earliest_age a) 0 e) in absurd (fails f.candidate f.among f.passes))

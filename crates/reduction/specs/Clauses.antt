@@ -14,11 +14,11 @@ pub record PassingCandidate (a : Application) (k : ℕ) : Type 0 where
 
 -- an age is a candidate that passes, and no earlier one does
 pub record EarliestPassing (a : Application) (age : ℕ) : Type 0 where
-  pub place : ℕ
-  pub among : place < 3
-  pub is : age ≡ candidate_of a place
-  pub passes : PassingCandidate a place
-  pub earlier : (j : ℕ) → j < place → PassingCandidate a j → ⊥
+  pub candidate : ℕ
+  pub among : candidate < 3
+  pub is : age ≡ candidate_of a candidate
+  pub passes : PassingCandidate a candidate
+  pub earlier : (j : ℕ) → j < candidate → PassingCandidate a j → ⊥
 
 -- none of the three passes
 abbrev pub NonePassing : Application → Type 0

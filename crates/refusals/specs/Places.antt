@@ -4,13 +4,13 @@ use Rattle.std.specs.Prelude.{Result, Ok, Err, ℕ}
 use Rattle.refusals.specs.declared.Refused.{Refused}
 use Rattle.refusals.specs.Numbers.{refusal_number}
 
--- a refusal with its number and place; number 0 is none
+-- the number of a refusal, 0 for none, and its place
 pub record RefusedAt : Type 0 where
-  pub number : ℕ
+  pub refusal : ℕ
   pub place : ℕ
 
-abbrev pub refusing : (number place : ℕ) → RefusedAt
-refusing number place = record { number = number; place = place }
+abbrev pub refusing : (refusal place : ℕ) → RefusedAt
+refusing refusal place = record { refusal = refusal; place = place }
 
 -- the number and the place of an answer that may be a refusal
 abbrev pub refused_in : {A : Type 0} → Result A Refused → RefusedAt

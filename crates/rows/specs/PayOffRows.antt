@@ -4,7 +4,7 @@
 use Rattle.std.specs.Prelude.{List, [], ◌∷◌, ◌++◌, ℕ, ◌*◌}
 use Rattle.terms.specs.declared.Terms.{Terms}
 use Rattle.rounding.specs.Nearest.{twelfths}
-use Rattle.pay_off.specs.Price.{increased_by, price_of}
+use Rattle.pay_off.specs.Cost.{increased_by, cost_of}
 use Rattle.pay_off.specs.PayOff.{pay_off_of}
 use Rattle.rows.specs.Rows.{Row, ◌is◌, only, five_years, paid_for, missed_for}
 
@@ -14,8 +14,8 @@ unfoldable pub step_rows : List Row
 step_rows =
     (only (increased_by 1011 119640) is only 120956)
     ∷ (only (twelfths 5 394000 373000) is only (12 * 385250))
-    ∷ (only (price_of 120956 394000 373000 5) is only 1863932)
-    ∷ (only (price_of 120956 385250 0 0) is only 1863932)
+    ∷ (only (cost_of 120956 394000 373000 5) is only 1863932)
+    ∷ (only (cost_of 120956 385250 0 0) is only 1863932)
     ∷ []
 
 -- not in the paper: £5.00 at 1.001 is half a penny above £5.00, and a penny at £625.00 costs two and a half pence, where the even penny
@@ -23,8 +23,8 @@ step_rows =
 unfoldable pub half_rows : List Row
 half_rows =
     (only (increased_by 1001 500) is only 501)
-    ∷ (only (price_of 1 62500 0 0) is only 3)
-    ∷ (only (price_of 200000 25001 25000 1) is only 200007)
+    ∷ (only (cost_of 1 62500 0 0) is only 3)
+    ∷ (only (cost_of 200000 25001 25000 1) is only 200007)
     ∷ []
 
 -- the numbers of a pay-off: refusal, place, remaining, increased, cost

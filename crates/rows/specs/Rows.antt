@@ -5,8 +5,8 @@ use Rattle.std.specs.Prelude.{List, [], ◌∷◌, ◌++◌, ℕ, ◌*◌, ◌/�
 use Rattle.rounding.specs.Nearest.{nearest, blend}
 use Rattle.terms.specs.declared.Terms.{Terms}
 use Rattle.terms.specs.Rules.{refusal_of}
-use Rattle.election.specs.Price.{contribution_of}
-use Rattle.years.specs.Years.{year_credits, month_numerator, month_value}
+use Rattle.election.specs.Contribution.{contribution_of}
+use Rattle.years.specs.Years.{year_credit, year_credits, month_numerator, month_value}
 use Rattle.years.specs.Elected.{purchase_in}
 use Rattle.distance.specs.Fraction.{Fraction}
 use Rattle.settlement.specs.Credit.{exact_credit_of}
@@ -77,7 +77,7 @@ undivided n d = n
 
 -- twelve times that value before it is rounded
 abbrev pub twelfths_at : Terms → ℕ → ℕ
-twelfths_at t month = month_numerator (year_credits nearest (purchase_in t t.pnpa_years)) month
+twelfths_at t month = month_numerator (year_credit nearest (purchase_in t t.pnpa_years)) month
 
 -- year 1 and five paid months of the first contract; years 1 to 5, 18 paid months and the gap of the second
 unfoldable pub credit_rows : List Row

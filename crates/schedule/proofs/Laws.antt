@@ -130,7 +130,7 @@ runs_so_far t lower upper marks l u =
     rw (u, upper_odd t odd, by_runs nearest lower marks, by_runs nearest (year_credits nearest (purchase_in t (t.pnpa_years + 1))) marks, l)
     (sym (credit_combined t marks)))
 
-module _ (s : YearRows) (marks : List ℕ) (none : (settle_refusal s.election.terms marks).number ≡ 0) where
+module _ (s : YearRows) (marks : List ℕ) (none : (settle_refusal s.election.terms marks).refusal ≡ 0) where
   abbrev t : Terms
   t = s.election.terms
 

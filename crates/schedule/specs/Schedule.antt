@@ -24,7 +24,7 @@ pub record ScheduleNumbers : Type 0 where
 
 -- document 01's numbers of an answer, beside the list
 abbrev pub numbers_of_schedule : Result Unit Refused → List ℕ → ScheduleNumbers
-numbers_of_schedule r list = record { refusal = (refused_in r).number; place = (refused_in r).place; list = list }
+numbers_of_schedule r list = record { refusal = (refused_in r).refusal; place = (refused_in r).place; list = list }
 
 -- Settle's refusal with its place, then 14 for a list that is shorter than the marks; neither writes anything
 unfoldable pub schedule_of : Terms → List ℕ → List ℕ → ScheduleNumbers

@@ -127,7 +127,7 @@ impl YearRows {
 
     // An entry for each mark. Each mark is walked through once.
     fn fill(&self, marks: &[u8], out: &mut [u32])
-        requires none_refused { (settle_refusal self.now.election.terms marks.now).number ≡ 0 }
+        requires none_refused { (settle_refusal self.now.election.terms marks.now).refusal ≡ 0 }
         requires marks_in_bounds { length marks.now ≤ length out.old }
         ensures { out.new ≡ filled_of self.now.election.terms marks.now out.old }
     {

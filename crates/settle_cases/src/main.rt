@@ -11,15 +11,15 @@ use std::io::{Read, Write};
 // What stops the program before the end of its input.
 #[derive(Clone, Copy, Debug, PartialEq, Eq)]
 enum Failure {
-    Reading,
-    Writing,
+    ReadFailed,
+    WriteFailed,
 }
 
 impl fmt::Display for Failure {
     fn fmt<W: fmt::Write>(&self, f: &mut fmt::Formatter<W>) -> fmt::Result {
         match self {
-            Failure::Reading => write!(f, "reading failed"),
-            Failure::Writing => write!(f, "writing failed"),
+            Failure::ReadFailed => write!(f, "reading failed"),
+            Failure::WriteFailed => write!(f, "writing failed"),
         }
     }
 }
@@ -43,7 +43,7 @@ fn print_settled<W: Write>(
         let done = casefile::settle_chunk(line, rest, out);
         output
             .write_all(&out[..done.wrote])
-            .map_err(|_| Failure::Writing)?;
+            .map_err(|_| Failure::WriteFailed)?;
         line = done.after;
         rest = &rest[done.taken..];
     }
@@ -68,7 +68,7 @@ impl<R: Read, W: Write> Settling<R, W> {
         let n = self
             .input
             .read(&mut self.chunk)
-            .map_err(|_| Failure::Reading)?;
+            .map_err(|_| Failure::ReadFailed)?;
         self.line = print_settled(&mut self.output, self.line, &self.chunk[..n], &mut self.out)?;
         Ok(n)
     }
@@ -76,7 +76,7 @@ impl<R: Read, W: Write> Settling<R, W> {
     // Settles and prints the line that the end of the input ends, if one is open.
     fn print_last(&mut self) -> Result<(), Failure> {
         if let Some(row) = casefile::settle_end(self.line) {
-            self.output.write_all(&row).map_err(|_| Failure::Writing)?;
+            self.output.write_all(&row).map_err(|_| Failure::WriteFailed)?;
         }
         Ok(())
     }

@@ -17,7 +17,7 @@ use Rattle.scheme.specs.Scheme.{pounds_in_pence, longest_term, most_marks, open_
 use Rattle.scheme.specs.Bounds.{most_monthly_contribution, most_refund, last_settle_refusal}
 use Rattle.terms.specs.declared.Terms.{Terms}
 use Rattle.terms.specs.Rules.{refusal_of}
-use Rattle.election.specs.Price.{contribution_of}
+use Rattle.election.specs.Contribution.{contribution_of}
 use Rattle.terms.proofs.Laws.{refusal_most}
 use Rattle.election.proofs.Laws.{terms_accepted, contribution_most, monthly_most, contribution_least}
 use Rattle.marks.specs.Counts.{paid_months}
@@ -37,16 +37,16 @@ use Rattle.settlement.proofs.Demand.{worked_most}
 module _ (t : Terms) (ms : List ℕ) where
   -- a refusal within its bounds
   abbrev Bounded : RefusedAt → Type 0
-  Bounded r = (r.number ≤ last_settle_refusal) × (r.place ≤ most_marks - 1)
+  Bounded r = (r.refusal ≤ last_settle_refusal) × (r.place ≤ most_marks - 1)
 
   -- of the marks under accepted terms
   by_marks : refusal_of t 0 ≡ 0 → Bounded (marks_refusal open_months t.term ms)
-  by_marks pass = go (dec_le (length ms) (months_in_year * t.term)) (ℕ_discrete (marks_refusal open_months t.term ms).number 0)
+  by_marks pass = go (dec_le (length ms) (months_in_year * t.term)) (ℕ_discrete (marks_refusal open_months t.term ms).refusal 0)
     where
       high : t.term ≤ longest_term
       high = (terms_accepted t 0 pass).term_high
 
-      go : Dec (length ms ≤ months_in_year * t.term) → Dec ((marks_refusal open_months t.term ms).number ≡ 0)
+      go : Dec (length ms ≤ months_in_year * t.term) → Dec ((marks_refusal open_months t.term ms).refusal ≡ 0)
           → Bounded (marks_refusal open_months t.term ms)
       go few (yes z) = rw (marks_unrefused open_months t.term ms (marks_lawful open_months t.term ms z)) (omega arith)
       go (no many) (no h) = rw (too_many_marks open_months t.term ms (omega arith)) (omega arith)
@@ -62,7 +62,7 @@ module _ (t : Terms) (ms : List ℕ) where
       go (no h) = rw (refused_by_terms t ms h) (omega (arith, refusal_most t 0))
 
   -- no credit passes the amount
-  pub credit_amount : (settle_refusal t ms).number ≡ 0 → credit_at_status t ms (status_of open_months t.term ms) ≤ pounds_in_pence t.amount
+  pub credit_amount : (settle_refusal t ms).refusal ≡ 0 → credit_at_status t ms (status_of open_months t.term ms) ≤ pounds_in_pence t.amount
   unfolding credit_at_status
   credit_amount none = go (eqb (status_of open_months t.term ms) 5) (eqb (status_of open_months t.term ms) 6) refl
     where
@@ -73,9 +73,9 @@ module _ (t : Terms) (ms : List ℕ) where
 
   -- whatever the terms and marks: what is refused has no credit
   pub settle_credit_most : (settle_of t ms).credit ≤ pounds_in_pence t.amount
-  settle_credit_most = go (ℕ_discrete (settle_refusal t ms).number 0)
+  settle_credit_most = go (ℕ_discrete (settle_refusal t ms).refusal 0)
     where
-      go : Dec ((settle_refusal t ms).number ≡ 0) → (settle_of t ms).credit ≤ pounds_in_pence t.amount
+      go : Dec ((settle_refusal t ms).refusal ≡ 0) → (settle_of t ms).credit ≤ pounds_in_pence t.amount
       go (yes none) = rw (settle_settled t ms none) (credit_amount none)
       go (no some) = rw (settle_refused t ms some) (omega arith)
 
@@ -86,7 +86,7 @@ module _ (t : Terms) (ms : List ℕ) where
       rw (settle_settled t ms none) (contribution_least t 0 (settled_terms t ms none))
 
   -- eleven monthly contributions at most
-  refund_bound : (settle_refusal t ms).number ≡ 0 → refund_at_status t ms (status_of open_months t.term ms) ≤ most_refund
+  refund_bound : (settle_refusal t ms).refusal ≡ 0 → refund_at_status t ms (status_of open_months t.term ms) ≤ most_refund
   unfolding refund_at_status
   refund_bound none = go (eqb (status_of open_months t.term ms) 5) refl
     where
@@ -111,9 +111,9 @@ module _ (t : Terms) (ms : List ℕ) where
       go false e = omega arith
 
   pub settle_bounds : SettleBounds (settle_of t ms)
-  settle_bounds = go (ℕ_discrete (settle_refusal t ms).number 0)
+  settle_bounds = go (ℕ_discrete (settle_refusal t ms).refusal 0)
     where
-      go : Dec ((settle_refusal t ms).number ≡ 0) → SettleBounds (settle_of t ms)
+      go : Dec ((settle_refusal t ms).refusal ≡ 0) → SettleBounds (settle_of t ms)
       go (no h) =
           rw (settle_refused t ms h)
           record {

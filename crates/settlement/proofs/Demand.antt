@@ -12,11 +12,11 @@ use lib.ListN.{replicate, length-replicate}
 use Rattle.common.specs.Choice.{pick}
 use Rattle.common.specs.Calendar.{months_in_year}
 use Rattle.scheme.specs.Scheme.{pounds_in_pence, open_months}
-use Rattle.rounding.specs.Nearest.{nearest}
+use Rattle.rounding.specs.Nearest.{nearest, combine}
 use Rattle.rounding.proofs.InForce.{nearest_within_half, nearest_monotone}
 use Rattle.terms.specs.declared.Terms.{Terms}
 use Rattle.terms.specs.Rules.{refusal_of}
-use Rattle.election.specs.Price.{contribution_of}
+use Rattle.election.specs.Contribution.{contribution_of}
 use Rattle.election.proofs.Laws.{terms_accepted}
 use Rattle.refusals.specs.Places.{RefusedAt}
 use Rattle.marks.specs.Lawful.{Lawful, LawfulFor}
@@ -67,7 +67,7 @@ pub credit_worked : (t : Terms) (ms : List ℕ) → 0 < t.term → (status_of op
 credit_worked t ms monthly other = credit_by_status t ms monthly ∙ rw (ne_eqb (status_of open_months t.term ms) 5 other)
 
 pub demand_3 : (t : Terms) (ms : List ℕ) → Demand3 t ms (settle_of t ms)
-unfolding credit_of exact_credit_of
+unfolding credit_of combine exact_credit_of
 demand_3 t ms z years k other =
     let none = sym (settle_refusal_lem t ms) ∙ z in
     let law = settled_marks t ms none in
@@ -78,8 +78,8 @@ demand_3 t ms z years k other =
     first.0 first.1))
 
 -- a monthly contract's runs never earn more than the amount
-pub worked_most : (t : Terms) (ms : List ℕ) → (settle_refusal t ms).number ≡ 0 → 0 < t.term → credit_of t ms ≤ pounds_in_pence t.amount
-unfolding credit_of
+pub worked_most : (t : Terms) (ms : List ℕ) → (settle_refusal t ms).refusal ≡ 0 → 0 < t.term → credit_of t ms ≤ pounds_in_pence t.amount
+unfolding credit_of combine
 worked_most t ms none monthly =
     let a = settled_terms t ms none in
     omega (
@@ -90,7 +90,7 @@ worked_most t ms none monthly =
 
 -- twelve paid months in each year of the term earn the amount exactly
 full_credit : (t : Terms) → refusal_of t 0 ≡ 0 → 0 < t.term → credit_of t (replicate (months_in_year * t.term) 1) ≡ pounds_in_pence t.amount
-unfolding credit_of
+unfolding credit_of combine
 full_credit t pass monthly =
     let a = terms_accepted t 0 pass in
     omega (
@@ -108,6 +108,6 @@ settle_full t pass monthly =
     let paid : List ℕ = replicate (months_in_year * t.term) 1 in
     let law : LawfulFor open_months t.term paid =
     record { few = omega (arith, length-replicate {A = ℕ} (months_in_year * t.term) 1); lawful = all_paid_lawful open_months (months_in_year * t.term) } in
-    let none : (settle_refusal t paid).number ≡ 0 =
-    ap (λ (r : RefusedAt). r.number) (refused_by_marks t paid pass ∙ marks_unrefused open_months t.term paid law) in
+    let none : (settle_refusal t paid).refusal ≡ 0 =
+    ap (λ (r : RefusedAt). r.refusal) (refused_by_marks t paid pass ∙ marks_unrefused open_months t.term paid law) in
     settle_settled t paid none ∙ rw (full_status open_months t.term monthly, full_credit t pass monthly)

@@ -12,7 +12,7 @@ use Rattle.rounding.proofs.InForce.{nearest_within_half}
 use Rattle.rates.specs.Rates.{rate_of}
 use Rattle.terms.specs.declared.Terms.{Terms}
 use Rattle.election.specs.declared.TableRates.{TableRates}
-use Rattle.election.specs.Price.{contribution_at, contribution_in}
+use Rattle.election.specs.Contribution.{contribution_at, contribution_in}
 use Rattle.election.specs.LookedUp.{rates_of}
 use Rattle.election.specs.TermsAccepted.{TermsAccepted}
 use Rattle.terms.specs.Rate.{units_of}
@@ -29,10 +29,10 @@ use Rattle.settlement.specs.Credit.{purchases_of, credit_of}
 
 module _ (t : Terms) (a : TermsAccepted t 0) (monthly : 0 < t.term) where
   lower_printed : 0 < rate_of t.option t.pnpa_years t.age t.term
-  lower_printed = rw (monthly_rate t t.pnpa_years monthly) at a.lower_rate
+  lower_printed = rw (monthly_rate t t.pnpa_years monthly) at a.lower_printed
 
   upper_printed : (t.pnpa_months ≡ 0 → ⊥) → 0 < rate_of t.option (t.pnpa_years + 1) t.age t.term
-  upper_printed odd = rw (monthly_rate t (t.pnpa_years + 1) monthly) at (a.upper_rate odd)
+  upper_printed odd = rw (monthly_rate t (t.pnpa_years + 1) monthly) at (a.upper_printed odd)
 
   pub sound : SoundPurchases (purchases_of t)
   sound =
@@ -53,13 +53,13 @@ module _ (t : Terms) (a : TermsAccepted t 0) (monthly : 0 < t.term) where
   -- what `year_credits` asks of the rates that the terms go by
   module _ {rates : TableRates} (are : rates ≡ rates_of t) where
     pub lower_rate_asked : (rates.lower ≡ rate_of t.option t.pnpa_years t.age t.term) × ((0 < rates.lower) × (pounds_in_pence t.amount < 2 ^ 32))
-    lower_rate_asked = rw are (monthly_rate t t.pnpa_years monthly, (a.lower_rate, amount_fits))
+    lower_rate_asked = rw are (monthly_rate t t.pnpa_years monthly, (a.lower_printed, amount_fits))
 
     pub upper_rate_asked : (rate : ℕ) → rates.upper ≡ Some rate
         → (rate ≡ rate_of t.option (t.pnpa_years + 1) t.age t.term) × ((0 < rate) × (pounds_in_pence t.amount < 2 ^ 32))
     upper_rate_asked rate e =
         let upper = upper_rate_is t rate (sym (ap (λ (r : TableRates). r.upper) are) ∙ e) in
-        rw upper.1 (monthly_rate t (t.pnpa_years + 1) monthly, (a.upper_rate upper.0, amount_fits))
+        rw upper.1 (monthly_rate t (t.pnpa_years + 1) monthly, (a.upper_printed upper.0, amount_fits))
 
     -- only odd months have an upper rate
     pub no_upper_rate_asked : rates.upper ≡ None → t.pnpa_months ≡ 0

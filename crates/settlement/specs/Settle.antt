@@ -4,7 +4,7 @@ use Rattle.std.specs.Prelude.{Result, Ok, Err, List, ℕ, ◌*◌, eqb}
 use Rattle.common.specs.Choice.{pick}
 use Rattle.scheme.specs.Scheme.{pounds_in_pence, open_months}
 use Rattle.terms.specs.declared.Terms.{Terms}
-use Rattle.election.specs.Price.{contribution_of}
+use Rattle.election.specs.Contribution.{contribution_of}
 use Rattle.refusals.specs.declared.Refused.{Refused}
 use Rattle.refusals.specs.Numbers.{refusal_number}
 use Rattle.marks.specs.Counts.{paid_months}
@@ -32,8 +32,8 @@ unfoldable pub refund_at_status : Terms → (marks : List ℕ) (status : ℕ) �
 refund_at_status t marks status = pick (eqb status 5) (contribution_of t * paid_months marks) 0
 
 -- a refusal, all other fields 0
-abbrev pub refused_numbers : (refusal place : ℕ) → SettleNumbers
-refused_numbers n place =
+abbrev pub refused_settlement : (refusal place : ℕ) → SettleNumbers
+refused_settlement n place =
     record { refusal = n; place = place; contribution = 0; status = 0; credit = 0; refund = 0 }
 
 -- terms and marks that are not refused
@@ -52,12 +52,12 @@ settled_numbers t marks =
 -- Settle: the first refusal and its place, or the settlement
 unfoldable pub settle_of : Terms → (marks : List ℕ) → SettleNumbers
 settle_of t marks =
-    pick (eqb (settle_refusal t marks).number 0) (settled_numbers t marks)
-    (refused_numbers (settle_refusal t marks).number (settle_refusal t marks).place)
+    pick (eqb (settle_refusal t marks).refusal 0) (settled_numbers t marks)
+    (refused_settlement (settle_refusal t marks).refusal (settle_refusal t marks).place)
 
 -- document 01's numbers for each case of an answer
 abbrev pub numbers_of_settlement : Result Settlement Refused → SettleNumbers
-numbers_of_settlement (Err e) = refused_numbers (refusal_number e.refusal) e.place
+numbers_of_settlement (Err e) = refused_settlement (refusal_number e.refusal) e.place
 numbers_of_settlement (Ok s) =
     record {
       refusal = 0;

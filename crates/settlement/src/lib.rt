@@ -84,7 +84,7 @@ pub fn settle(t: Terms, marks: &[u8]) -> Result<Settlement, Refused>
     ensures refused { is_refused result ≡ ltb 0 (settle_of t marks.now).refusal }
 {
     let e = examination::examine(t, marks)?;
-    let contribution = e.election.cost();
+    let contribution = e.election.contribution();
     Ok(Settlement {
         contribution,
         status: e.status,

@@ -16,15 +16,15 @@ use Rattle.terms.specs.Rate.{rate_for, table_rate}
 use Rattle.terms.specs.Rules.{wrong_option, wrong_pension_age, wrong_term, wrong_payer, missing_upper, no_rate, no_upper_rate, wrong_amount, above_cap}
 use Rattle.terms.specs.Rules.{refusal_of}
 use Rattle.terms.specs.Printed.{FirstFourPass}
-use Rattle.terms.specs.RefusalParts.{terms_refusal, price_refusal, rate_refusal, amount_refusal}
+use Rattle.terms.specs.RefusalParts.{first_four_refusal, last_four_refusal, rate_refusal, amount_refusal}
 
 -- a chain gives 0 only where its first test fails and the rest gives 0
 passed : (b : Bool) (n rest : ℕ) → 0 < n → pick b n rest ≡ 0 → (b ≡ false) × (rest ≡ 0)
 passed b n rest p = not_first (λ x. x ≡ 0) b n rest (λ z. omega arith)
 
 -- the rules before the rates pass
-pub terms_rules_pass : (t : Terms) → terms_refusal t ≡ 0 → FirstFourPass t
-unfolding terms_refusal
+pub terms_rules_pass : (t : Terms) → first_four_refusal t ≡ 0 → FirstFourPass t
+unfolding first_four_refusal
 terms_rules_pass t z =
     let r1 = passed (wrong_option t) 1 _ (omega arith) z in
     let r2 = passed (wrong_pension_age t) 2 _ (omega arith) r1.1 in
@@ -39,8 +39,8 @@ pub record PricePass (t : Terms) (existing : ℕ) : Type 0 where
   pub amount : wrong_amount t ≡ false
   pub cap : above_cap t existing ≡ false
 
-pub price_rules_pass : (t : Terms) (existing : ℕ) → price_refusal t existing ≡ 0 → PricePass t existing
-unfolding price_refusal
+pub price_rules_pass : (t : Terms) (existing : ℕ) → last_four_refusal t existing ≡ 0 → PricePass t existing
+unfolding last_four_refusal
 price_rules_pass t existing z =
     let r5 = passed (no_rate t) 5 _ (omega arith) z in
     let r6 = passed (no_upper_rate t) 6 _ (omega arith) r5.1 in
@@ -49,8 +49,8 @@ price_rules_pass t existing z =
     record { rate = r5.0; upper = r6.0; amount = r7.0; cap = r8.0 }
 
 -- and the other way round
-pub first_four_pass : (t : Terms) → FirstFourPass t → terms_refusal t ≡ 0
-unfolding terms_refusal
+pub first_four_pass : (t : Terms) → FirstFourPass t → first_four_refusal t ≡ 0
+unfolding first_four_refusal
 first_four_pass t p = rw (p.option, p.pension_age, p.term, p.payer)
 
 -- the chain is the first half, and where that passes the second
@@ -63,18 +63,18 @@ joined false false false true rest = refl
 joined false false false false rest = refl
 
 module _ (t : Terms) (existing : ℕ) where
-  halves : refusal_of t existing ≡ first_of (terms_refusal t) (price_refusal t existing)
-  unfolding refusal_of terms_refusal price_refusal
+  halves : refusal_of t existing ≡ first_of (first_four_refusal t) (last_four_refusal t existing)
+  unfolding refusal_of first_four_refusal last_four_refusal
   halves = joined (wrong_option t) (wrong_pension_age t) (wrong_term t) (wrong_payer t) _
 
-  pub terms_decide : (terms_refusal t ≡ 0 → ⊥) → refusal_of t existing ≡ terms_refusal t
-  terms_decide h = halves ∙ first_refuses (terms_refusal t) (price_refusal t existing) h
+  pub terms_decide : (first_four_refusal t ≡ 0 → ⊥) → refusal_of t existing ≡ first_four_refusal t
+  terms_decide h = halves ∙ first_refuses (first_four_refusal t) (last_four_refusal t existing) h
 
-  pub price_decides : terms_refusal t ≡ 0 → refusal_of t existing ≡ price_refusal t existing
-  price_decides h = halves ∙ first_passes (terms_refusal t) (price_refusal t existing) h
+  pub price_decides : first_four_refusal t ≡ 0 → refusal_of t existing ≡ last_four_refusal t existing
+  price_decides h = halves ∙ first_passes (first_four_refusal t) (last_four_refusal t existing) h
 
-  pub none_refuses : refusal_of t existing ≡ 0 → (terms_refusal t ≡ 0) × (price_refusal t existing ≡ 0)
-  none_refuses z = both_pass (terms_refusal t) (price_refusal t existing) (sym halves ∙ z)
+  pub none_refuses : refusal_of t existing ≡ 0 → (first_four_refusal t ≡ 0) × (last_four_refusal t existing ≡ 0)
+  none_refuses z = both_pass (first_four_refusal t) (last_four_refusal t existing) (sym halves ∙ z)
 
 -- the second half is its first two rules, and where they pass the other two
 price_parts : (a b : Bool) (rest : ℕ) → pick a 5 (pick b 6 rest) ≡ first_of (pick a 5 (pick b 6 0)) rest
@@ -84,13 +84,13 @@ price_parts false false rest = refl
 
 -- the chain in the three parts that the code asks one after the other
 pub in_parts : (t : Terms) (existing : ℕ)
-    → refusal_of t existing ≡ first_of (terms_refusal t) (first_of (rate_refusal t) (amount_refusal t existing))
-unfolding price_refusal rate_refusal amount_refusal
+    → refusal_of t existing ≡ first_of (first_four_refusal t) (first_of (rate_refusal t) (amount_refusal t existing))
+unfolding last_four_refusal rate_refusal amount_refusal
 in_parts t existing =
-    halves t existing ∙ ap (λ (rest : ℕ). first_of (terms_refusal t) rest) (price_parts (no_rate t) (no_upper_rate t) _)
+    halves t existing ∙ ap (λ (rest : ℕ). first_of (first_four_refusal t) rest) (price_parts (no_rate t) (no_upper_rate t) _)
 
 -- so the first part that refuses decides
-module _ (t : Terms) (existing : ℕ) (terms : terms_refusal t ≡ 0) where
+module _ (t : Terms) (existing : ℕ) (terms : first_four_refusal t ≡ 0) where
   pub rates_decide : (rate_refusal t ≡ 0 → ⊥) → refusal_of t existing ≡ rate_refusal t
   rates_decide h = in_parts t existing ∙ first_passes _ _ terms ∙ first_refuses _ _ h
 

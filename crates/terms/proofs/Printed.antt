@@ -10,12 +10,13 @@ use borrow.Author.Tests.{eq-eqb, ne_eqb, eqb-true, eqb-false}
 use Rattle.common.specs.Choice.{pick}
 use Rattle.common.proofs.Choice.{either}
 use Rattle.common.proofs.Tests.{by_test, never, or_true}
+use Rattle.rates.specs.Rates.{LumpPrinted}
 use Rattle.rates.proofs.Laws.{rate_printed, rate_shown, lump_shown, lump_none}
 use Rattle.terms.specs.declared.Terms.{Terms}
 use Rattle.terms.specs.Rate.{table_rate}
 use Rattle.terms.specs.Rules.{missing_upper, no_rate, no_upper_rate, wrong_amount, above_cap, refusal_of}
-use Rattle.terms.specs.RefusalParts.{price_refusal}
-use Rattle.terms.specs.Printed.{LumpPrintedFor, MonthlyPrintedFor, LacksRate, LacksUpperRate, FirstFourPass, PrintedRefusals}
+use Rattle.terms.specs.RefusalParts.{last_four_refusal}
+use Rattle.terms.specs.Printed.{MonthlyPrintedFor, LacksRate, LacksUpperRate, FirstFourPass, PrintedRefusals}
 use Rattle.terms.proofs.Laws.{first_four_pass, price_decides, lump_rate, monthly_rate, lower_rate_some}
 
 -- a number that cannot be above 0 is 0
@@ -25,10 +26,10 @@ not_above (suc n) h = absurd (h (omega arith))
 
 -- a rate is 0 just where nothing is printed
 module _ (t : Terms) (p : ℕ) where
-  zero_lump : t.term ≡ 0 → table_rate t p ≡ 0 → LumpPrintedFor t p → ⊥
+  zero_lump : t.term ≡ 0 → table_rate t p ≡ 0 → LumpPrinted t.option p t.age → ⊥
   zero_lump z e there = omega (arith, lump_rate t p z, lump_shown t.option p t.age there)
 
-  none_lump : t.term ≡ 0 → (LumpPrintedFor t p → ⊥) → table_rate t p ≡ 0
+  none_lump : t.term ≡ 0 → (LumpPrinted t.option p t.age → ⊥) → table_rate t p ≡ 0
   none_lump z no_lump = lump_rate t p z ∙ lump_none t.option p t.age no_lump
 
   zero_monthly : 0 < t.term → table_rate t p ≡ 0 → MonthlyPrintedFor t p → ⊥
@@ -123,7 +124,7 @@ module _ (t : Terms) (existing : ℕ) where
   five_other = either (λ n. n ≡ 5 → ⊥) (no_upper_rate t) (λ e. omega arith) six_other.0
 
   pub printed_refusals : FirstFourPass t → PrintedRefusals t existing
-  unfolding price_refusal
+  unfolding last_four_refusal
   printed_refusals pass =
       let whole = price_decides t existing (first_four_pass t pass) in
       record {

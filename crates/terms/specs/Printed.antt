@@ -10,18 +10,18 @@ use Rattle.terms.specs.Rules.{wrong_option, wrong_pension_age, wrong_term, wrong
 abbrev pub NeededPensionAge : Terms → (pension_age : ℕ) → Type 0
 NeededPensionAge t pension_age = (pension_age ≡ t.pnpa_years) ⊎ ((pension_age ≡ t.pnpa_years + 1) × (t.pnpa_months ≡ 0 → ⊥))
 
--- what is printed for the terms at a whole pension age: a lump sum, and a monthly rate
-abbrev pub LumpPrintedFor : Terms → (pension_age : ℕ) → Type 0
-LumpPrintedFor t pension_age = LumpPrinted t.option pension_age t.age
+-- for an age no lump sum is printed at a pension age that is needed
+abbrev pub LacksLumpSum : Terms → (age : ℕ) → Type 0
+LacksLumpSum t age = (p : ℕ) × (NeededPensionAge t p × (LumpPrinted t.option p age → ⊥))
 
+-- a monthly rate is printed for the terms at a whole pension age
 abbrev pub MonthlyPrintedFor : Terms → (pension_age : ℕ) → Type 0
 MonthlyPrintedFor t pension_age = MonthlyPrinted first_age print_margin t.option pension_age t.age t.term
 
 -- 5: the lump sum at a needed pension age, or the monthly rate of the only or lower one, is not printed
 abbrev pub LacksRate : Terms → Type 0
 LacksRate t =
-    ((t.term ≡ 0) × ((p : ℕ) × (NeededPensionAge t p × (LumpPrintedFor t p → ⊥))))
-    ⊎ ((0 < t.term) × (MonthlyPrintedFor t t.pnpa_years → ⊥))
+    ((t.term ≡ 0) × LacksLumpSum t t.age) ⊎ ((0 < t.term) × (MonthlyPrintedFor t t.pnpa_years → ⊥))
 
 -- 6: the monthly rate of the lower pension age is printed, and that of the upper, which odd months need, is not
 abbrev pub LacksUpperRate : Terms → Type 0

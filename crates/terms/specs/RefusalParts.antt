@@ -6,12 +6,12 @@ use Rattle.terms.specs.declared.Terms.{Terms}
 use Rattle.terms.specs.Rules.{wrong_option, wrong_pension_age, wrong_term, wrong_payer, no_rate, no_upper_rate, wrong_amount, above_cap}
 
 -- of the rules that need no rate the number of the first that refuses, 0 where none does
-unfoldable pub terms_refusal : Terms → ℕ
-terms_refusal t = pick (wrong_option t) 1 (pick (wrong_pension_age t) 2 (pick (wrong_term t) 3 (pick (wrong_payer t) 4 0)))
+unfoldable pub first_four_refusal : Terms → ℕ
+first_four_refusal t = pick (wrong_option t) 1 (pick (wrong_pension_age t) 2 (pick (wrong_term t) 3 (pick (wrong_payer t) 4 0)))
 
 -- and of the others, which a price has to pass
-unfoldable pub price_refusal : Terms → (existing : ℕ) → ℕ
-price_refusal t existing =
+unfoldable pub last_four_refusal : Terms → (existing : ℕ) → ℕ
+last_four_refusal t existing =
     pick (no_rate t) 5 (pick (no_upper_rate t) 6 (pick (wrong_amount t) 7 (pick (above_cap t existing) 8 0)))
 
 -- of these in turn those that look at a rate

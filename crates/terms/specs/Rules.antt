@@ -29,11 +29,15 @@ wrong_payer t = not (eqb t.payer 1 || eqb t.payer 2) || (eqb t.payer 2 && ltb 0 
 abbrev pub missing_upper : Terms → (upper : ℕ) → Bool
 missing_upper t upper = not (eqb t.pnpa_months 0) && eqb upper 0
 
+-- of two rates one is none: that of the only or lower pension age, or that of the upper where it is needed
+abbrev pub lacks_either : Terms → (lower upper : ℕ) → Bool
+lacks_either t lower upper = eqb lower 0 || missing_upper t upper
+
 -- 5: for a lump sum, nothing in Table S at a needed pension age; else nothing in the only or lower monthly table
 unfoldable pub no_rate : Terms → Bool
 no_rate t =
     pick (eqb t.term 0)
-    (eqb (table_rate t t.pnpa_years) 0 || missing_upper t (table_rate t (t.pnpa_years + 1)))
+    (lacks_either t (table_rate t t.pnpa_years) (table_rate t (t.pnpa_years + 1)))
     (eqb (table_rate t t.pnpa_years) 0)
 
 -- 6: nothing in the upper monthly table, which odd months need

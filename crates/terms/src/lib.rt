@@ -5,7 +5,7 @@ ghost use Rattle.std.specs.Prelude.{◌≡◌};
 ghost use Rattle.refusals.specs.Parts.{refusal_in};
 ghost use Rattle.terms.specs.Rate.{units_of};
 ghost use Rattle.terms.specs.Rules.{wrong_option, wrong_pension_age, wrong_payer};
-ghost use Rattle.terms.specs.RefusalParts.{terms_refusal};
+ghost use Rattle.terms.specs.RefusalParts.{first_four_refusal};
 
 use common::MONTHS_IN_YEAR;
 use refusals::Refusal;
@@ -34,9 +34,9 @@ impl Terms {
     }
 
     // The rules that need no rate, 1 to 4.
-    #[tactic(auto, using(common::proofs::Tests::tests), unfolding(crate::specs::RefusalParts::terms_refusal, crate::specs::Rules::wrong_term))]
+    #[tactic(auto, using(common::proofs::Tests::tests), unfolding(crate::specs::RefusalParts::first_four_refusal, crate::specs::Rules::wrong_term))]
     pub fn check(self) -> Result<(), Refusal>
-        ensures { refusal_in result ≡ terms_refusal self }
+        ensures { refusal_in result ≡ first_four_refusal self }
     {
         if self.wrong_option() {
             return Err(Refusal::WrongOption);

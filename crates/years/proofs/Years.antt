@@ -16,7 +16,7 @@ use Rattle.common.proofs.Table.{length_tabulate, get_d_tabulate}
 use Rattle.scheme.specs.Scheme.{longest_term, row_places}
 use Rattle.rounding.specs.Rounding.{WithinHalf, Monotone}
 use Rattle.rounding.proofs.Laws.{round_most, blended_most}
-use Rattle.years.specs.Years.{Purchase, own_contribution, year_credit, year_credits, month_numerator, month_value, Falling}
+use Rattle.years.specs.Years.{Purchase, own_contribution, year_credit, year_credits, month_value, Falling}
 
 module _ (round : ℕ → ℕ → ℕ) (p : Purchase) where
   pub year_none : year_credit round p 0 ≡ 0
@@ -32,7 +32,7 @@ module _ (round : ℕ → ℕ → ℕ) (p : Purchase) where
   year_past n past = rw (ne_eqb n 0 (λ z. omega arith), lt-leb n p.term past)
 
   -- the row of 21 has every year's credit, those past its end being 0
-  pub row_year : p.term ≤ 20 → (n : ℕ) → get_or (year_credits round p) n 0 ≡ year_credit round p n
+  pub row_year : p.term ≤ longest_term → (n : ℕ) → get_or (year_credits round p) n 0 ≡ year_credit round p n
   unfolding year_credits
   row_year short n =
       by_test (ltb n row_places)
@@ -65,12 +65,12 @@ module _ (round : ℕ → ℕ → ℕ) (half : WithinHalf round) where
       (round_most round half _ _ _ (falling.positive n h.0 h.1) (own_most p falling n h.0 h.1)))
       (year_or_none p n)
 
-  pub years_most : (p : Purchase) → p.term ≤ 20 → Falling p → (n : ℕ) → get_or (year_credits round p) n 0 ≤ p.units * p.unit
+  pub years_most : (p : Purchase) → p.term ≤ longest_term → Falling p → (n : ℕ) → get_or (year_credits round p) n 0 ≤ p.units * p.unit
   years_most p short falling n = rw (row_year round p short n) (year_most p falling n)
 
   -- a bound of all the years bounds the value at a month
   pub month_most : (years : List ℕ) (u : ℕ) → ((n : ℕ) → get_or years n 0 ≤ u) → (month : ℕ) → month_value round years month ≤ u
-  unfolding month_value month_numerator
+  unfolding month_value
   month_most years u most month =
       blended_most round half (month % months_in_year) _ _ u (omega arith) (most (month / months_in_year)) (most (suc (month / months_in_year)))
 

@@ -34,12 +34,12 @@ year_credit round p n =
 unfoldable pub year_credits : (round : ℕ → ℕ → ℕ) → Purchase → List ℕ
 year_credits round p = tabulate (year_credit round p) 0 row_places
 
--- Twelve times what such a row is worth at a month, nothing rounded: the year that was last completed and the one under way, by the months
--- passed since.
-unfoldable pub month_numerator : (years : List ℕ) (month : ℕ) → ℕ
+-- Twelve times the value at a month, nothing rounded, where year n is worth `years n`: of the year that was last completed and the one
+-- under way, by the months passed since.
+abbrev pub month_numerator : (years : ℕ → ℕ) (month : ℕ) → ℕ
 month_numerator years month =
-    twelfths (month % months_in_year) (get_or years (month / months_in_year) 0) (get_or years (suc (month / months_in_year)) 0)
+    twelfths (month % months_in_year) (years (month / months_in_year)) (years (suc (month / months_in_year)))
 
--- What it is worth at a month.
-unfoldable pub month_value : (round : ℕ → ℕ → ℕ) (years : List ℕ) (month : ℕ) → ℕ
-month_value round years month = round (month_numerator years month) months_in_year
+-- What a row is worth at a month.
+unfoldable pub month_value : (round : ℕ → ℕ → ℕ) (row : List ℕ) (month : ℕ) → ℕ
+month_value round row month = round (month_numerator (λ n. get_or row n 0) month) months_in_year

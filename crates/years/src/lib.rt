@@ -49,7 +49,7 @@ fn year_at(years: &[u32], n: u32) -> u32
 }
 
 // The value at a contract month. Both ends of every run are valued here.
-#[tactic(auto, using(rounding::proofs::Laws::blend_most), unfolding(rounding::specs::Nearest::blend, crate::specs::Years::month_value, crate::specs::Years::month_numerator))]
+#[tactic(auto, using(rounding::proofs::Laws::blend_most), unfolding(rounding::specs::Nearest::blend, crate::specs::Years::month_value))]
 pub fn month_value(years: [u32; ROW_PLACES], month: u32) -> PensionPence
     ensures is { result ≡ pension (month_value nearest years month) }
     ensures fits { result.0 < 2 ^ 32 }

@@ -32,7 +32,7 @@ returns-clause-told c =
     let read = c.in_ok-reading.ensures in
     let pass = sym (with_nothing t c.in_ok-election.ensures.refusal c.none.ensures) in
     let none = by_marks t c.args.marks.now (as_read c.in_ok-reading.reading) pass read in
-    let law = settled_marks t c.args.marks.now (sym (ap (λ (r : RefusedAt). r.number) none)) in
+    let law = settled_marks t c.args.marks.now (sym (ap (λ (r : RefusedAt). r.refusal) none)) in
     record {
       terms = c.in_ok-election.ensures.terms;
       status = c.status.ensures ∙ ap (status_from t.term) read ∙ status_lawful open_months t.term c.args.marks.now law;

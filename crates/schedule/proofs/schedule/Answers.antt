@@ -28,13 +28,13 @@ module _ (t : Terms) (marks list : List ℕ) where
       → ◌≡◌ {A = ScheduleNumbers} (record { refusal = refusal_number e.refusal; place = e.place; list = list }) (schedule_of t marks list)
   unfolding schedule_of
   refused e is =
-      let some : (settle_refusal t marks).number ≡ 0 → ⊥ = λ z. omega (arith, refusal_positive e.refusal, ap (λ (r : RefusedAt). r.number) is, z) in
-      ap (λ (r : RefusedAt). record { refusal = r.number; place = r.place; list = list }) is
-      ∙ rw (settle_refused t marks some, ne_eqb (settle_refusal t marks).number 0 some)
+      let some : (settle_refusal t marks).refusal ≡ 0 → ⊥ = λ z. omega (arith, refusal_positive e.refusal, ap (λ (r : RefusedAt). r.refusal) is, z) in
+      ap (λ (r : RefusedAt). record { refusal = r.refusal; place = r.place; list = list }) is
+      ∙ rw (settle_refused t marks some, ne_eqb (settle_refusal t marks).refusal 0 some)
 
   module _ (none : refusing 0 0 ≡ settle_refusal t marks) where
-    pub unrefused : (settle_refusal t marks).number ≡ 0
-    unrefused = sym (ap (λ (r : RefusedAt). r.number) none)
+    pub unrefused : (settle_refusal t marks).refusal ≡ 0
+    unrefused = sym (ap (λ (r : RefusedAt). r.refusal) none)
 
     short : length list < length marks → ◌≡◌ {A = ScheduleNumbers} (record { refusal = 14; place = 0; list = list }) (schedule_of t marks list)
     unfolding schedule_of

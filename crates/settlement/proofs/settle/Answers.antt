@@ -6,7 +6,7 @@ use Prim.Native.Nat.{ℕ, ◌≤◌, ◌<◌, ◌^◌}
 use native.Mathlib.Omega.{arith}
 use Rattle.scheme.specs.Scheme.{most_marks}
 use Rattle.refusals.specs.Places.{refusing}
-use Rattle.election.specs.Price.{contribution_of}
+use Rattle.election.specs.Contribution.{contribution_of}
 use Rattle.election.proofs.Laws.{contribution_most}
 use Rattle.terms.specs.declared.Terms.{Terms}
 use Rattle.marks.proofs.Counts.{months_most}
@@ -22,11 +22,11 @@ use Rattle.settlement.proofs.settle.Goals as goal
 module _ (t : Terms) (ms : List ℕ) where
   module _ (none : refusing 0 0 ≡ settle_refusal t ms) {e : Examined} (told : ExaminationOf t ms e) where
     small : {k : ContributionPence} → k ≡ contribution (contribution_of e.election.terms) → (k.0 < 2 ^ 32) × (e.paid_months ≤ most_marks)
-    small cost =
-        rw (cost, told.terms, told.paid)
+    small paid =
+        rw (paid, told.terms, told.paid)
         (omega (arith, contribution_most t 0 (settled_terms t ms (unrefused t ms none)), months_most ms, settled_few t ms (unrefused t ms none)))
 
 pub refund_at_status-requires : goal.refund_at_status-requires
 refund_at_status-requires c =
     let e = c.in_ok-e.ensures in
-    small c.args.t c.args.marks.now e.refusal e.told c.cost-contribution.ensures
+    small c.args.t c.args.marks.now e.refusal e.told c.contribution-contribution.ensures

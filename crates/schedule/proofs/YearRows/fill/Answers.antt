@@ -7,18 +7,18 @@ use native.Mathlib.Omega.{arith}
 use lib.ListN.{length, take, get_or}
 use Rattle.common.proofs.Written.{Written, written_none, written_more, written_list}
 use Rattle.terms.specs.declared.Terms.{Terms}
-use Rattle.scheme.specs.Scheme.{cap_pence}
+use Rattle.scheme.specs.Scheme.{pounds_in_pence}
 use Rattle.money.specs.Money.{pension}
 use Rattle.money.specs.declared.PensionPence.{PensionPence}
 use Rattle.examination.specs.Refusal.{settle_refusal}
-use Rattle.settlement.proofs.Bounds.{settle_bounds}
+use Rattle.settlement.proofs.Bounds.{settle_credit_most}
 use Rattle.schedule.specs.Schedule.{entry_of, filled_of}
 use Rattle.schedule.specs.Walk.{WalkSoFar, step_walk, walk_of, held_of, Holdable}
 use Rattle.schedule.specs.declared.YearRows.{YearRows}
 use Rattle.schedule.proofs.Laws.{walk_starts, walk_more, walk_months, holds, entry_held}
 use Rattle.schedule.proofs.YearRows.fill.Goals as goal
 
-module _ (s : YearRows) (marks : List ℕ) (none : (settle_refusal s.election.terms marks).number ≡ 0) where
+module _ (s : YearRows) (marks : List ℕ) (none : (settle_refusal s.election.terms marks).refusal ≡ 0) where
   next : {w r : WalkSoFar} (i : ℕ) → i < length marks → w ≡ walk_of s (take i marks) → r ≡ step_walk s w (get_or marks i 0)
       → r ≡ walk_of s (take (i + 1) marks)
   next i h walked told = told ∙ ap (λ (w : WalkSoFar). step_walk s w (get_or marks i 0)) walked ∙ walk_more s marks none i h
@@ -28,9 +28,10 @@ module _ (s : YearRows) (marks : List ℕ) (none : (settle_refusal s.election.te
       → k.0 ≡ entry_of s.election.terms marks i
   entry i walked held = ap (λ (k : PensionPence). k.0) held ∙ ap (held_of s) walked ∙ entry_held s marks none i
 
-entry_small : (t : Terms) (marks : List ℕ) (i : ℕ) → entry_of t marks i ≤ cap_pence
+-- no entry passes the amount
+entry_small : (t : Terms) (marks : List ℕ) (i : ℕ) → entry_of t marks i ≤ pounds_in_pence t.amount
 unfolding entry_of
-entry_small t marks i = (settle_bounds t (take (suc i) marks)).credit_most
+entry_small t marks i = settle_credit_most t (take (suc i) marks)
 
 done : (t : Terms) (marks old out : List ℕ) {i : ℕ} → length marks ≤ length old → i ≡ length marks → Written (entry_of t marks) old out i
     → out ≡ filled_of t marks old
@@ -64,7 +65,7 @@ overflow_cast-out c =
     let l = c.loop-i in
     let none = c.requires.none_refused in
     let is = next a.self.now a.marks.now none l.i c.loop-i-test.true l.invariant.walked c.walk_on-w.ensures in
-    omega (arith, entry a.self.now a.marks.now none l.i is c.held.ensures, entry_small a.self.now.election.terms a.marks.now l.i)
+    omega (arith, entry a.self.now a.marks.now none l.i is c.held.ensures, entry_small a.self.now.election.terms a.marks.now l.i, a.self.now.election.accepted.under_cap)
 
 pub loop-i-preserved : goal.loop-i-preserved
 loop-i-preserved c =

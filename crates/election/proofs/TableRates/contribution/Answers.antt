@@ -1,4 +1,4 @@
--- `election::TableRates::cost` meets its contract: at most twenty-six times £250 at a bounded rate fit, and the upper table counts with odd
+-- `election::TableRates::contribution` meets its contract: at most twenty-six times £250 at a bounded rate fit, and the upper table counts with odd
 -- months alone.
 -- Assumes nothing.
 use mathlib.Core.Path.{sym, ap, ◌∙◌}
@@ -8,7 +8,7 @@ use native.Mathlib.Omega.{arith}
 use Rattle.scheme.specs.Scheme.{step_pounds, cap_pounds}
 use Rattle.scheme.specs.Bounds.{most_lump_sum_rate, most_steps}
 use Rattle.election.proofs.Laws.{table_rate_most, upper_rate_is}
-use Rattle.election.proofs.TableRates.cost.Goals as goal
+use Rattle.election.proofs.TableRates.contribution.Goals as goal
 
 fits : (amount rate : ℕ) → amount ≤ cap_pounds → rate ≤ most_lump_sum_rate → amount / step_pounds * rate < 2 ^ 32
 fits amount rate p q =

@@ -11,5 +11,5 @@ increased_by increase pension = half_up (pension * increase) 1000
 
 -- the pension times the rate m odd months after the lower of two pension ages, divided by £250, to the nearest penny: the one rounding
 -- between pension and cost, since the rate is a whole number of twelfths of a penny
-unfoldable pub price_of : (increased lower upper m : ℕ) → ℕ
-price_of increased lower upper m = half_up (increased * twelfths m lower upper) (months_in_year * step_pence)
+unfoldable pub cost_of : (increased lower upper m : ℕ) → ℕ
+cost_of increased lower upper m = half_up (increased * twelfths m lower upper) (months_in_year * step_pence)

@@ -1,7 +1,0 @@
--- `election::Election::cost` meets its contract: the cap allows what is accepted, and the rates are those of the terms.
--- Assumes nothing.
-use native.Mathlib.Omega.{arith}
-use Rattle.election.proofs.Election.cost.Goals as goal
-
-pub cost-requires : goal.cost-requires
-cost-requires c = (omega (arith, c.args.self.accepted.under_cap), c.args.self.looked_up)
