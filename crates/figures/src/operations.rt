@@ -1,6 +1,6 @@
 // A line for each row of a table: what is asked, and what the part gives for it. Answers are taken apart here into the columns of a line,
 // which are not those that a host stores: the register, a schedule and the spelling of a refusal differ.
-use crate::asked::{Asked, On, MarkRun, MarkRuns};
+use crate::asked::{Asked, MarkRun, MarkRuns, On};
 use crate::elapsed::Elapsed;
 use money::PensionPence;
 use pay_off::PayOff;

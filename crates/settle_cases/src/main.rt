@@ -76,7 +76,9 @@ impl<R: Read, W: Write> Settling<R, W> {
     // Settles and prints the line that the end of the input ends, if one is open.
     fn print_last(&mut self) -> Result<(), Failure> {
         if let Some(row) = casefile::settle_end(self.line) {
-            self.output.write_all(&row).map_err(|_| Failure::WriteFailed)?;
+            self.output
+                .write_all(&row)
+                .map_err(|_| Failure::WriteFailed)?;
         }
         Ok(())
     }
