@@ -10,7 +10,7 @@ use Rattle.common.specs.Calendar.{months_in_year}
 use Rattle.scheme.specs.Scheme.{longest_term}
 use Rattle.rounding.specs.Rounding.{WithinHalf, Monotone}
 use Rattle.rounding.proofs.Laws.{round_whole, combined_most, combined_least}
-use Rattle.years.specs.Years.{Purchase, own_contribution, year_credits, month_value, Falling}
+use Rattle.years.specs.Years.{Purchase, own_contribution, year_credits, month_value, FallingRates}
 use Rattle.credit.specs.Runs.{◌until◌, paid_flags, runs_from, run_from, runs_in}
 use Rattle.credit.specs.Credit.{sum_over_runs, credit_over, credit_in}
 use Rattle.years.proofs.Years.{year_none, year_within, years_most, month_most}
@@ -31,7 +31,7 @@ all_paid value (suc n) h = rw (one_run n 0 1) (omega (arith, ap value {x = 1 + n
 
 module _ (round : ℕ → ℕ → ℕ) (half : WithinHalf round) where
   module _ (mono : Monotone round) where
-    table_most : (p : Purchase) → p.term ≤ longest_term → Falling p → (marks : List ℕ) → length marks ≤ months_in_year * p.term
+    table_most : (p : Purchase) → p.term ≤ longest_term → FallingRates p → (marks : List ℕ) → length marks ≤ months_in_year * p.term
         → credit_in round p marks ≤ p.units * p.unit
     table_most p short falling marks fits =
         omega (
@@ -49,7 +49,7 @@ module _ (round : ℕ → ℕ → ℕ) (half : WithinHalf round) where
         (λ p term unit units short falling. rw (← unit, ← units) (table_most p short falling marks (rw term fits))) in
         combined_most round half c.odd_months _ _ u (omega (arith, sound.odd_most)) most.0 most.1
 
-  table_full : (p : Purchase) → p.term ≤ longest_term → Falling p → 0 < p.term → credit_in round p (replicate (months_in_year * p.term) 1) ≡ p.units * p.unit
+  table_full : (p : Purchase) → p.term ≤ longest_term → FallingRates p → 0 < p.term → credit_in round p (replicate (months_in_year * p.term) 1) ≡ p.units * p.unit
   unfolding credit_in credit_over
   table_full p short falling h =
       let r = p.rate p.term in

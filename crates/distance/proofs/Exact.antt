@@ -8,7 +8,7 @@ use native.Mathlib.Nat.{mul-le-mul_left, le_of_mul-le-mul_right, div-mul_cancel}
 use native.Mathlib.Omega.{arith}
 use lib.ListN.{length}
 use Rattle.common.specs.Calendar.{months_in_year}
-use Rattle.years.specs.Years.{Purchase, own_contribution, year_credit, Falling, month_numerator}
+use Rattle.years.specs.Years.{Purchase, own_contribution, year_credit, FallingRates, month_numerator}
 use Rattle.credit.specs.Months.{sum_over_paid_from}
 use Rattle.years.proofs.Years.{year_none, year_within}
 use Rattle.distance.specs.Exact.{exact_year, exact_month, exact_from}
@@ -31,7 +31,7 @@ exact_over p = year_credit (share p) p
 abbrev pub month_over : Purchase → ℕ → ℕ
 month_over p i = exact_over p (suc (i / 12)) - exact_over p (i / 12)
 
-module _ (p : Purchase) (falling : Falling p) where
+module _ (p : Purchase) (falling : FallingRates p) where
   pub denominator_positive : 0 < denominator p
   unfolding denominator
   denominator_positive = product_positive p.rate p.term falling.positive

@@ -10,7 +10,7 @@ use Rattle.common.specs.Calendar.{months_in_year}
 use Rattle.scheme.specs.Scheme.{longest_term}
 use Rattle.rounding.specs.Rounding.{WithinHalf, Monotone}
 use Rattle.rounding.proofs.Laws.{blended_none}
-use Rattle.years.specs.Years.{Purchase, year_credit, year_credits, month_numerator, month_value, Falling}
+use Rattle.years.specs.Years.{Purchase, year_credit, year_credits, month_numerator, month_value, FallingRates}
 use Rattle.credit.specs.Credit.{credit_over, credit_in}
 use Rattle.credit.specs.Months.{growth, sum_over_paid}
 use Rattle.years.proofs.Years.{row_year, year_rises}
@@ -34,7 +34,7 @@ module _ (round : ℕ → ℕ → ℕ) (half : WithinHalf round) (p : Purchase) 
       let r : 12 * n % 12 ≡ 0 = omega arith in
       by_numerator round p short (12 * n) ∙ rw (q, r) (blended_none round half (year_credit round p n) (year_credit round p (suc n)))
 
-module _ (round : ℕ → ℕ → ℕ) (mono : Monotone round) (p : Purchase) (short : p.term ≤ longest_term) (falling : Falling p) where
+module _ (round : ℕ → ℕ → ℕ) (mono : Monotone round) (p : Purchase) (short : p.term ≤ longest_term) (falling : FallingRates p) where
   -- the month value never falls within the term
   pub month_rises : (a b : ℕ) → a ≤ b → b ≤ months_in_year * p.term
       → month_value round (year_credits round p) a ≤ month_value round (year_credits round p) b

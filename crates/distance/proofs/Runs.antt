@@ -12,7 +12,7 @@ use Rattle.common.specs.Calendar.{months_in_year}
 use Rattle.common.proofs.Tests.{by_test}
 use Rattle.scheme.specs.Scheme.{longest_term}
 use Rattle.rounding.specs.Rounding.{Monotone}
-use Rattle.years.specs.Years.{Purchase, year_credits, month_value, Falling}
+use Rattle.years.specs.Years.{Purchase, year_credits, month_value, FallingRates}
 use Rattle.credit.specs.Runs.{Run, paid_flags, runs_from, run_from, runs_in, starts_after, run_count}
 use Rattle.credit.proofs.Unbroken.{runs_unbroken}
 use Rattle.distance.proofs.Months.{month_rises}
@@ -48,7 +48,7 @@ run_lies N r marks h m =
     (λ t. absurd (omega (arith, last, get_or-eq_default marks 0 {n = r.to - 1} (omega (arith, leb-false r.to N t)))))
 
 -- no run's difference of values is cut off at 0
-pub run_rises : (round : ℕ → ℕ → ℕ) → Monotone round → (p : Purchase) → p.term ≤ longest_term → Falling p
+pub run_rises : (round : ℕ → ℕ → ℕ) → Monotone round → (p : Purchase) → p.term ≤ longest_term → FallingRates p
     → (marks : List ℕ) → length marks ≤ months_in_year * p.term → (r : Run) → Memᴰ r (runs_in marks)
     → month_value round (year_credits round p) r.from ≤ month_value round (year_credits round p) r.to
 run_rises round mono p short falling marks h r m =

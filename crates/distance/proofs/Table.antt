@@ -11,7 +11,7 @@ use lib.ListN.{length}
 use Rattle.common.specs.Calendar.{months_in_year}
 use Rattle.scheme.specs.Scheme.{longest_term}
 use Rattle.rounding.specs.Rounding.{WithinHalf, Monotone}
-use Rattle.years.specs.Years.{Purchase, own_contribution, year_credit, year_credits, month_value, Falling}
+use Rattle.years.specs.Years.{Purchase, own_contribution, year_credit, year_credits, month_value, FallingRates}
 use Rattle.credit.specs.Runs.{paid_flags, starts_after, run_count}
 use Rattle.credit.specs.Credit.{credit_in}
 use Rattle.years.proofs.Years.{year_none, year_within, year_or_none}
@@ -24,7 +24,7 @@ use Rattle.years.specs.Years.{month_numerator}
 use Rattle.distance.proofs.Months.{by_numerator, month_year, next_rises, credit_by_months}
 use Rattle.distance.proofs.Near.{Close, blend_near, near_first}
 
-module _ (round : ℕ → ℕ → ℕ) (half : WithinHalf round) (p : Purchase) (short : p.term ≤ longest_term) (falling : Falling p) where
+module _ (round : ℕ → ℕ → ℕ) (half : WithinHalf round) (p : Purchase) (short : p.term ≤ longest_term) (falling : FallingRates p) where
   year_near : (n : ℕ) → Close (2 * denominator p * year_credit round p n) (2 * exact_over p n) (1 * denominator p)
   year_near n = ⊎_elim (λ none. rw (none round, none (share p)) (omega arith)) (λ h. in_term h.0 h.1) (year_or_none p n)
     where

@@ -4,11 +4,11 @@ use mathlib.Core.Path.{◌≡◌, refl}
 use Prim.Native.Nat.{◌≤◌, ◌<◌}
 use native.Mathlib.Omega.{arith}
 use Rattle.scheme.specs.Scheme.{longest_term}
-use Rattle.years.specs.Years.{Purchase, Falling}
+use Rattle.years.specs.Years.{Purchase, FallingRates}
 use Rattle.distance.specs.Distance.{Purchases, SoundPurchases}
 
 pub both_tables : (c : Purchases) → SoundPurchases c → (Q : Purchase → Type 0)
-    → ((p : Purchase) → p.term ≡ c.lower.term → p.unit ≡ c.lower.unit → p.units ≡ c.lower.units → p.term ≤ longest_term → Falling p → Q p)
+    → ((p : Purchase) → p.term ≡ c.lower.term → p.unit ≡ c.lower.unit → p.units ≡ c.lower.units → p.term ≤ longest_term → FallingRates p → Q p)
     → Q c.lower × (0 < c.odd_months → Q c.upper)
 both_tables c sound Q each = (
   each c.lower refl refl refl sound.term_most sound.lower_falls,

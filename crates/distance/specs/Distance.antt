@@ -5,7 +5,7 @@ use Rattle.common.specs.Choice.{pick}
 use Rattle.common.specs.Calendar.{months_in_year}
 use Rattle.scheme.specs.Scheme.{longest_term}
 use Rattle.rounding.specs.Nearest.{combine_by}
-use Rattle.years.specs.Years.{Purchase, Falling}
+use Rattle.years.specs.Years.{Purchase, FallingRates}
 use Rattle.credit.specs.Credit.{credit_in}
 use Rattle.distance.specs.Fraction.{Fraction}
 use Rattle.distance.specs.Exact.{exact_credit, exact_blend}
@@ -41,8 +41,8 @@ exact_credit_by c marks =
 pub record SoundPurchases (c : Purchases) : Type 0 where
   pub odd_most : c.odd_months < months_in_year
   pub term_most : c.lower.term ≤ longest_term
-  pub lower_falls : Falling c.lower
-  pub upper_falls : 0 < c.odd_months → Falling c.upper
+  pub lower_falls : FallingRates c.lower
+  pub upper_falls : 0 < c.odd_months → FallingRates c.upper
   pub same_term : c.upper.term ≡ c.lower.term
   pub same_unit : c.upper.unit ≡ c.lower.unit
   pub same_units : c.upper.units ≡ c.lower.units

@@ -22,18 +22,18 @@ use Rattle.reduction.specs.Bounds.{ReductionBounds}
 use Rattle.reduction.proofs.Bounds.{reduction_bounds}
 use Rattle.number_bytes.specs.Bytes.{low_bytes, eight_bytes, in_bytes}
 use Rattle.host.specs.Calls.{quote_bytes, settle_bytes, pay_off_bytes, reduction_bytes, host_quote_of, host_settle_of, host_pay_off_of, host_reduction_limit_of}
-use Rattle.host.specs.ReadBack.{number_of, number_at, QuoteRead, SettleRead, PayOffRead, ReductionRead}
+use Rattle.host.specs.ReadBack.{number_in_bytes, number_at, QuoteRead, SettleRead, PayOffRead, ReductionRead}
 use Rattle.host.proofs.Calls.{quote_enough, settle_enough, pay_off_enough, reduction_enough}
 
-low_back : (k n : ℕ) → n < 256 ^ k → number_of (low_bytes k n) ≡ n
-unfolding number_of low_bytes
+low_back : (k n : ℕ) → n < 256 ^ k → number_in_bytes (low_bytes k n) ≡ n
+unfolding number_in_bytes low_bytes
 low_back zero n h = omega arith
 low_back (suc k) n h =
     let less : n / 256 < 256 ^ k = omega (arith, rw pow-suc at h) in
     rw (low_back k (n / 256) less) (omega arith)
 
 -- eight bytes give their number back
-pub eight_back : (n : ℕ) → n < 2 ^ 64 → number_of (eight_bytes n) ≡ n
+pub eight_back : (n : ℕ) → n < 2 ^ 64 → number_in_bytes (eight_bytes n) ≡ n
 unfolding eight_bytes
 eight_back n h = low_back 8 n h
 

@@ -7,13 +7,13 @@ use Rattle.pay_off.specs.PayOff.{PayOffNumbers}
 use Rattle.reduction.specs.Answer.{ReductionNumbers}
 
 -- the number that bytes stand for, low byte first
-unfoldable pub number_of : List ℕ → ℕ
-number_of [] = 0
-number_of (b ∷ bytes) = b + 256 * number_of bytes
+unfoldable pub number_in_bytes : List ℕ → ℕ
+number_in_bytes [] = 0
+number_in_bytes (b ∷ bytes) = b + 256 * number_in_bytes bytes
 
 -- the 8-byte number that stands in a buffer from an index on
 unfoldable pub number_at : List ℕ → ℕ → ℕ
-number_at buffer i = number_of (take 8 (drop i buffer))
+number_at buffer i = number_in_bytes (take 8 (drop i buffer))
 
 -- a buffer that holds the numbers of a quote
 pub record QuoteRead (buffer : List ℕ) (n : QuoteNumbers) : Type 0 where

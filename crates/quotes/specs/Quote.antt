@@ -35,9 +35,9 @@ quote_of t existing last =
     (record { refusal = quote_refusal t existing last; contribution = 0; next = 0; register = last })
 
 -- document 01's numbers for each case of an answer, beside the register
-abbrev pub answer_numbers : Result QuoteMade Refusal → ℕ → QuoteNumbers
-answer_numbers (Err r) register = record { refusal = refusal_number r; contribution = 0; next = 0; register = register }
-answer_numbers (Ok q) register = record { refusal = 0; contribution = q.contribution.0; next = q.number; register = register }
+abbrev pub quote_answer_numbers : Result QuoteMade Refusal → ℕ → QuoteNumbers
+quote_answer_numbers (Err r) register = record { refusal = refusal_number r; contribution = 0; next = 0; register = register }
+quote_answer_numbers (Ok q) register = record { refusal = 0; contribution = q.contribution.0; next = q.number; register = register }
 
 abbrev pub numbers_of_quote : Quoted → QuoteNumbers
-numbers_of_quote q = answer_numbers q.answer q.register.last
+numbers_of_quote q = quote_answer_numbers q.answer q.register.last

@@ -3,7 +3,7 @@
 
 ghost use Rattle.std.specs.Prelude.{◌≡◌, ltb};
 ghost use Rattle.refusals.specs.Numbers.{is_refused};
-ghost use Rattle.quotes.specs.Quote.{answer_numbers, quote_of, numbers_of_quote};
+ghost use Rattle.quotes.specs.Quote.{quote_answer_numbers, quote_of, numbers_of_quote};
 ghost use Rattle.quotes.specs.Register.{last_after};
 ghost use Rattle.quotes.specs.Cap.{cap_decision_of, GreatestUnderCap};
 
@@ -38,7 +38,7 @@ pub const LAST_QUOTE_NUMBER: u32 = 999999;
 // The contribution and the next number; or the first of the refusals 1 to 9.
 #[tactic(auto, using(common::proofs::Tests::tests, refusals::proofs::Numbers::refusal_positive), unfolding(crate::specs::Quote::quote_of, crate::specs::Quote::quote_refusal))]
 fn answer(t: Terms, existing: PensionPence, register: Register) -> Result<QuoteMade, Refusal>
-    ensures is { answer_numbers result (last_after result register.last) ≡ quote_of t existing.0 register.last }
+    ensures is { quote_answer_numbers result (last_after result register.last) ≡ quote_of t existing.0 register.last }
     ensures refused { is_refused result ≡ ltb 0 (quote_of t existing.0 register.last).refusal }
 {
     let election = Election::new(t, existing)?;

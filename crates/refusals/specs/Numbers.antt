@@ -1,4 +1,4 @@
--- The numbers of the refusals, 1 to 12 and 13 to 15 of document 01, 16 to 18 of document 02; 0 is none.
+-- The numbers of the refusals, 1 to 15 of document 01, 16 to 18 of document 02; 0 is none.
 -- Assumes nothing.
 use Rattle.std.specs.Prelude.{Bool, true, false, Result, Ok, Err, ℕ}
 use Rattle.refusals.specs.declared.Refusal.{Refusal}

@@ -1,4 +1,4 @@
--- A refusal with its place, and the two numbers of an answer that may be one.
+-- Document 01, "What each operation gives": a refusal with its place, and the two numbers of an answer that may be one.
 -- Assumes nothing.
 use Rattle.std.specs.Prelude.{Result, Ok, Err, ℕ}
 use Rattle.refusals.specs.declared.Refused.{Refused}

@@ -1,4 +1,4 @@
--- The credit of an election for a list of marks, and the exact credit.
+-- Document 01, "From rate to contribution and credit": the credit of an election for a list of marks, and the exact credit.
 -- Assumes nothing.
 use Rattle.std.specs.Prelude.{List, ℕ, ◌+◌}
 use Rattle.rounding.specs.Nearest.{nearest, combine}

@@ -1,4 +1,4 @@
--- Settle's refusals of marks, in document 01's own words.
+-- Document 01, "What each operation gives", Settle: what refuses marks, said of lawful marks and of the first bad one.
 -- Assumes nothing.
 use Rattle.std.specs.Prelude.{List, ◌≡◌, ℕ, ◌*◌, ◌≤◌, ◌<◌, length}
 use Rattle.common.specs.Calendar.{months_in_year}

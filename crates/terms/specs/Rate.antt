@@ -1,4 +1,4 @@
--- What the terms of an election buy, in units, and the rate for a unit that they look up.
+-- Document 01, "Rates" and "From rate to contribution and credit": how many units the terms of an election buy, and the rate for one.
 -- Assumes nothing.
 use Rattle.std.specs.Prelude.{ℕ, ◌/◌, eqb}
 use Rattle.common.specs.Choice.{pick}

@@ -16,7 +16,7 @@ use Rattle.common.proofs.Table.{length_tabulate, get_d_tabulate}
 use Rattle.scheme.specs.Scheme.{longest_term, row_places}
 use Rattle.rounding.specs.Rounding.{WithinHalf, Monotone}
 use Rattle.rounding.proofs.Laws.{round_most, blended_most}
-use Rattle.years.specs.Years.{Purchase, own_contribution, year_credit, year_credits, month_value, Falling}
+use Rattle.years.specs.Years.{Purchase, own_contribution, year_credit, year_credits, month_value, FallingRates}
 
 module _ (round : ℕ → ℕ → ℕ) (p : Purchase) where
   pub year_none : year_credit round p 0 ≡ 0
@@ -48,7 +48,7 @@ year_or_none p (suc n) =
     (λ h. inl (λ round. year_past round p (suc n) (leb-false (suc n) p.term h)))
 
 -- no rate up to the term is below the term's, so none buys more than the amount
-pub own_most : (p : Purchase) → Falling p → (n : ℕ) → 0 < n → n ≤ p.term → own_contribution p * p.unit ≤ p.units * p.unit * p.rate n
+pub own_most : (p : Purchase) → FallingRates p → (n : ℕ) → 0 < n → n ≤ p.term → own_contribution p * p.unit ≤ p.units * p.unit * p.rate n
 own_most p falling n low within = omega (arith, mul-le-mul_left (p.units * p.unit) (least p.term within (le_refl p.term)))
   where
     least : (m : ℕ) → n ≤ m → m ≤ p.term → p.rate m ≤ p.rate n
@@ -58,14 +58,14 @@ own_most p falling n low within = omega (arith, mul-le-mul_left (p.units * p.uni
 
 module _ (round : ℕ → ℕ → ℕ) (half : WithinHalf round) where
   -- no year is worth more than the amount
-  pub year_most : (p : Purchase) → Falling p → (n : ℕ) → year_credit round p n ≤ p.units * p.unit
+  pub year_most : (p : Purchase) → FallingRates p → (n : ℕ) → year_credit round p n ≤ p.units * p.unit
   year_most p falling n =
       ⊎_elim (λ none. rw (none round) (omega arith))
       (λ h. rw (year_within round p n h.0 h.1)
       (round_most round half _ _ _ (falling.positive n h.0 h.1) (own_most p falling n h.0 h.1)))
       (year_or_none p n)
 
-  pub years_most : (p : Purchase) → p.term ≤ longest_term → Falling p → (n : ℕ) → get_or (year_credits round p) n 0 ≤ p.units * p.unit
+  pub years_most : (p : Purchase) → p.term ≤ longest_term → FallingRates p → (n : ℕ) → get_or (year_credits round p) n 0 ≤ p.units * p.unit
   years_most p short falling n = rw (row_year round p short n) (year_most p falling n)
 
   -- a bound of all the years bounds the value at a month
@@ -74,7 +74,7 @@ module _ (round : ℕ → ℕ → ℕ) (half : WithinHalf round) where
   month_most years u most month =
       blended_most round half (month % months_in_year) _ _ u (omega arith) (most (month / months_in_year)) (most (suc (month / months_in_year)))
 
-pub year_rises : (round : ℕ → ℕ → ℕ) → Monotone round → (p : Purchase) → Falling p → (n : ℕ) → n < p.term
+pub year_rises : (round : ℕ → ℕ → ℕ) → Monotone round → (p : Purchase) → FallingRates p → (n : ℕ) → n < p.term
     → year_credit round p n ≤ year_credit round p (suc n)
 year_rises round mono p falling zero h = rw (year_none round p) (omega arith)
 year_rises round mono p falling (suc n) h =

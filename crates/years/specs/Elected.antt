@@ -1,4 +1,4 @@
--- What the terms of an election buy by the monthly table of a whole pension age.
+-- Document 01, "From rate to contribution and credit": what the terms of an election buy by the monthly table of a whole pension age.
 -- Assumes nothing.
 use Rattle.std.specs.Prelude.{ℕ}
 use Rattle.scheme.specs.Scheme.{step_pence}

@@ -20,7 +20,7 @@ use Rattle.money.specs.Money.{pension}
 use Rattle.money.specs.Contribution.{contribution}
 use Rattle.rates.specs.Rates.{rate_of}
 use Rattle.rates.proofs.Laws.{rate_printed}
-use Rattle.years.specs.Years.{Purchase, own_contribution, year_credit, year_credits, Falling}
+use Rattle.years.specs.Years.{Purchase, own_contribution, year_credit, year_credits, FallingRates}
 use Rattle.terms.specs.declared.Terms.{Terms}
 use Rattle.years.specs.Elected.{purchase_in}
 use Rattle.years.proofs.Elected.{rates_fall}
@@ -37,7 +37,7 @@ record Turn (p : Purchase) (n : ℕ) (own : ContributionPence) (unit : PensionPe
   within : n ≤ p.term
 
 module _ (p : Purchase) (n : ℕ) (own : ContributionPence) (unit : PensionPence) (rate : ℕ) (t : Turn p n own unit rate) where
-  year_fits : Falling p → p.units * p.unit < 2 ^ 32 → (0 < rate) × (own.0 * unit.0 ≤ (2 ^ 32 - 1) * rate)
+  year_fits : FallingRates p → p.units * p.unit < 2 ^ 32 → (0 < rate) × (own.0 * unit.0 ≤ (2 ^ 32 - 1) * rate)
   year_fits falling fits = rw (t.paid, t.sold, t.rated) (
     falling.positive n t.low t.within,
     omega (
@@ -70,7 +70,7 @@ module _ (t : Terms) (pension_age rate : ℕ) (priced : rate ≡ rate_of t.optio
   short : bought.term ≤ longest_term
   short = (rate_printed _ _ _ _ there).term_high
 
-  falling : Falling bought
+  falling : FallingRates bought
   falling = rates_fall _ _ _ _ _ there
 
   own_paid : (own : ContributionPence) → own ≡ contribution (bought.units * rate) → own ≡ contribution (own_contribution bought)
