@@ -9,7 +9,7 @@ use Rattle.rounding.specs.Rounding.{WithinHalf}
 use Rattle.years.specs.Years.{month_value}
 use Rattle.credit.specs.Runs.{Run, runs_in}
 use Rattle.credit.specs.Credit.{sum_over_runs, credit_over}
-use Rattle.credit.proofs.Months.{by_months, added_most}
+use Rattle.credit.proofs.Months.{by_months, paid_growth_most}
 use Rattle.credit.proofs.Order.{Ordered, runs_ordered}
 use Rattle.years.proofs.Years.{month_most}
 
@@ -29,5 +29,5 @@ module _ (round : ℕ → ℕ → ℕ) (half : WithinHalf round) where
         arith,
         each_most (month_value round years) u (month_most round half years u most) (runs_in marks) 0 (runs_ordered marks),
         by_months (λ (month : ℕ). month * u) marks (λ i h. omega arith),
-        added_most (λ (month : ℕ). month * u) marks (λ i h. omega arith),
+        paid_growth_most (λ (month : ℕ). month * u) marks (λ i h. omega arith),
       )

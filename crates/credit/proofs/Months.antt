@@ -48,5 +48,5 @@ module _ (value : ℕ → ℕ) (marks : List ℕ) (up : (i : ℕ) → i < length
   by_months = outside value (length marks) up (paid_flags marks) 0 (omega (arith, length_paid marks))
 
   -- they add at most what the value has grown by to the last of the marks
-  pub added_most : sum_over_paid (growth value) marks + value 0 ≤ value (length marks)
-  added_most = most_from value (length marks) up (paid_flags marks) 0 (length marks) (omega (arith, length_paid marks)) (omega arith)
+  pub paid_growth_most : sum_over_paid (growth value) marks + value 0 ≤ value (length marks)
+  paid_growth_most = most_from value (length marks) up (paid_flags marks) 0 (length marks) (omega (arith, length_paid marks)) (omega arith)

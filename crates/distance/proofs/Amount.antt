@@ -14,7 +14,7 @@ use Rattle.years.specs.Years.{Purchase, own_contribution, year_credits, month_va
 use Rattle.credit.specs.Runs.{◌until◌, paid_flags, runs_from, run_from, runs_in}
 use Rattle.credit.specs.Credit.{sum_over_runs, credit_over, credit_in}
 use Rattle.years.proofs.Years.{year_none, year_within, years_most, month_most}
-use Rattle.credit.proofs.Months.{added_most}
+use Rattle.credit.proofs.Months.{paid_growth_most}
 use Rattle.distance.specs.Distance.{Purchases, credit_by, SoundPurchases}
 use Rattle.distance.proofs.Months.{month_year, next_rises, credit_by_months}
 use Rattle.distance.proofs.Tables.{both_tables}
@@ -37,7 +37,7 @@ module _ (round : ℕ → ℕ → ℕ) (half : WithinHalf round) where
         omega (
           arith,
           credit_by_months round mono p short falling marks fits,
-          added_most (month_value round (year_credits round p)) marks (λ i h. next_rises round mono p short falling i (omega arith)),
+          paid_growth_most (month_value round (year_credits round p)) marks (λ i h. next_rises round mono p short falling i (omega arith)),
           month_most round half (year_credits round p) (p.units * p.unit) (years_most round half p short falling) (length marks),
         )
 

@@ -37,7 +37,7 @@ exact_credit_by c marks =
     pick (eqb c.odd_months 0) (exact_credit c.lower marks)
     (exact_blend c.odd_months (exact_credit c.lower marks) (exact_credit c.upper marks))
 
--- What the theorems ask: odd months below 12, a term that is not too long, falling rates, the same term, unit and units in both tables.
+-- What the theorems ask: odd months below 12, a term of at most the longest, falling rates, the same term, unit and units in both tables.
 pub record SoundPurchases (c : Purchases) : Type 0 where
   pub odd_most : c.odd_months < months_in_year
   pub term_most : c.lower.term ≤ longest_term

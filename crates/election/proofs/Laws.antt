@@ -1,4 +1,4 @@
--- What callers use of an election's refusal, rates and cost, without opening them.
+-- What callers use of an election's refusal, rates and contribution, without opening them.
 -- Assumes nothing.
 use mathlib.Core.Bool.{Bool, true, false, not, ◌||◌}
 use mathlib.Core.Path.{◌≡◌, refl, sym, ◌∙◌}
@@ -19,8 +19,8 @@ use Rattle.rates.proofs.Laws.{rate_most, lump_none, lump_most}
 use Rattle.terms.specs.declared.Terms.{Terms}
 use Rattle.terms.specs.Rate.{rate_for, table_rate}
 use Rattle.terms.specs.Rules.{wrong_option, wrong_pension_age, wrong_term, wrong_amount, above_cap, refusal_of}
-use Rattle.terms.proofs.Laws.{terms_rules_pass, price_rules_pass, none_refuses, monthly_rate, lower_rate_some, upper_rate_some}
-use Rattle.election.specs.Contribution.{contribution_at, contribution_in, contribution_of}
+use Rattle.terms.proofs.Laws.{terms_rules_pass, last_four_pass, none_refuses, monthly_rate, lower_rate_some, upper_rate_some}
+use Rattle.election.specs.ContributionOf.{contribution_at, contribution_in, contribution_of}
 use Rattle.election.specs.LookedUp.{upper_rate}
 use Rattle.election.specs.TermsAccepted.{PensionAgeIn, TermsAccepted}
 
@@ -46,8 +46,8 @@ unfolding wrong_term wrong_amount above_cap
 terms_accepted t existing e =
     let none = none_refuses t existing e in
     let terms = terms_rules_pass t none.0 in
-    let price = price_rules_pass t existing none.1 in
-    let amount = or_false (ltb t.amount step_pounds) (not (eqb (t.amount % step_pounds) 0)) price.amount in
+    let four = last_four_pass t existing none.1 in
+    let amount = or_false (ltb t.amount step_pounds) (not (eqb (t.amount % step_pounds) 0)) four.amount in
     let even : t.amount % step_pounds ≡ 0 = eqb-true (t.amount % step_pounds) 0 (not-false _ amount.1) in
     let option = option_in t terms.option in
     record {
@@ -55,11 +55,11 @@ terms_accepted t existing e =
       option_high = option.1;
       pension_age = pension_age_in t terms.pension_age;
       term_high = ltb-false _ _ terms.term;
-      lower_printed = lower_rate_some t price.rate;
-      upper_printed = upper_rate_some t price.rate price.upper;
+      lower_printed = lower_rate_some t four.rate;
+      upper_printed = upper_rate_some t four.rate four.upper;
       amount_low = ltb-false _ _ amount.0;
       whole = omega arith;
-      under_cap = ltb-false _ _ price.cap;
+      under_cap = ltb-false _ _ four.cap;
     }
 
 -- no rate is above the greatest lump sum for £250
@@ -116,7 +116,7 @@ rate_past t p past =
     (sym (rate_no_table t.option p t.age t.term (λ known. omega arith)))
 
 module _ (t : Terms) (existing : ℕ) (a : TermsAccepted t existing) where
-  -- at rates of at most r an election costs at most as many times r as the cap has steps
+  -- at rates of at most r a contribution is at most as many times r as the cap has steps
   by_rates : (r : ℕ) → ((p : ℕ) → table_rate t p ≤ r) → contribution_of t ≤ most_steps * r
   unfolding contribution_of contribution_in contribution_at
   by_rates r rates =

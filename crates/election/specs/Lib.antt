@@ -1,3 +1,3 @@
-pub mod Contribution
+pub mod ContributionOf
 pub mod LookedUp
 pub mod TermsAccepted

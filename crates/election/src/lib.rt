@@ -8,7 +8,7 @@ ghost use Rattle.money.specs.Contribution.{contribution};
 ghost use Rattle.terms.specs.Rate.{table_rate};
 ghost use Rattle.terms.specs.Rules.{wrong_amount, above_cap, refusal_of};
 ghost use Rattle.terms.specs.RefusalParts.{rate_refusal, amount_refusal};
-ghost use Rattle.election.specs.Contribution.{contribution_of};
+ghost use Rattle.election.specs.ContributionOf.{contribution_of};
 ghost use Rattle.election.specs.LookedUp.{if_printed, rates_of};
 ghost use Rattle.election.specs.TermsAccepted.{TermsAccepted};
 
@@ -79,7 +79,7 @@ impl TableRates {
     }
 
     // The contribution of terms whose amount the cap allows, at the rates that are theirs.
-    #[tactic(auto, using(rounding::proofs::Laws::combine_none, rounding::proofs::Laws::combine_odd, crate::proofs::Laws::upper_rate_is, crate::proofs::Laws::upper_rate_none), unfolding(crate::specs::Contribution::contribution_of, crate::specs::Contribution::contribution_in, crate::specs::Contribution::contribution_at))]
+    #[tactic(auto, using(rounding::proofs::Laws::combine_none, rounding::proofs::Laws::combine_odd, crate::proofs::Laws::upper_rate_is, crate::proofs::Laws::upper_rate_none), unfolding(crate::specs::ContributionOf::contribution_of, crate::specs::ContributionOf::contribution_in, crate::specs::ContributionOf::contribution_at))]
     pub fn contribution(self, t: Terms) -> ContributionPence
         requires { (t.amount ≤ cap_pounds) × (self ≡ rates_of t) }
         ensures { result ≡ contribution (contribution_of t) }

@@ -26,6 +26,6 @@ module _ (t : Terms) (ms : List ℕ) where
     pub unrefused : (settle_refusal t ms).refusal ≡ 0
     unrefused = sym (ap (λ (r : RefusedAt). r.refusal) none)
 
-    pub told_monthly : {e : Examined} → ExaminationOf t ms e → (status_number e.status ≡ 5 → ⊥) → (status_number e.status ≡ 6 → ⊥)
+    pub examined_monthly : {e : Examined} → ExaminationOf t ms e → (status_number e.status ≡ 5 → ⊥) → (status_number e.status ≡ 6 → ⊥)
         → 0 < e.election.terms.term
-    told_monthly told five other = rw told.terms (not_lump open_months t.term ms (rw told.status at other))
+    examined_monthly told five other = rw told.terms (not_lump open_months t.term ms (rw told.status at other))

@@ -24,7 +24,7 @@ pub struct Examined {
 #[tactic(auto, using(common::proofs::Tests::tests, refusals::proofs::Numbers::refusal_positive, crate::proofs::Laws::refused_by_terms, crate::proofs::Laws::refused_by_marks, marks::proofs::Term::marks_number, marks::proofs::Term::marks_place))]
 pub fn examine(t: Terms, marks: &[u8]) -> Result<Examined, Refused>
     ensures refusal { refused_in result ≡ settle_refusal t marks.now }
-    ensures told { IfOk result (λ e. ExaminationOf t marks.now e) }
+    ensures found { IfOk result (λ e. ExaminationOf t marks.now e) }
 {
     let election = Election::new(t, PensionPence::none())?;
     let reading = marks::read_marks(marks, scheme::OPEN_MONTHS, t.term)?;

@@ -12,7 +12,7 @@ use Rattle.settlement.specs.Settle.{SettleNumbers, settle_of}
 use Rattle.settlement.proofs.Bounds.{settle_bounds}
 use Rattle.pay_off.specs.PayOff.{nothing_to_pay_off, wrong_increase, no_lump_sum_now, contract_refusal, remaining_of, pay_off_of}
 use Rattle.pay_off.specs.Bounds.{PayOffBounds}
-use Rattle.pay_off.proofs.Costs.{increased_most, price_most}
+use Rattle.pay_off.proofs.Costs.{increased_most, greatest_cost}
 use Rattle.pay_off.proofs.Contract.{contract_passes, contract_refused, contract_priced}
 use Rattle.pay_off.proofs.Laws.{settle_refuses, contract_decides}
 use Rattle.pay_off.proofs.Clauses.{unrefused_terms}
@@ -43,7 +43,7 @@ module _ (t : Terms) (ms : List ℕ) (age_now increase : ℕ) where
             place_most = omega arith;
             remaining_most = omega (arith, a.under_cap);
             increased_most = more;
-            cost_most = price_most _ _ _ t.pnpa_months (omega (arith, a.pension_age.months_high)) more (lump_most t.option t.pnpa_years age_now) (lump_most t.option _ age_now);
+            cost_most = greatest_cost _ _ _ t.pnpa_months (omega (arith, a.pension_age.months_high)) more (lump_most t.option t.pnpa_years age_now) (lump_most t.option _ age_now);
           }
       by_contract z (no some) =
           rw (contract_decides t ms age_now increase z, contract_refused t settled.status age_now increase settled.credit some)

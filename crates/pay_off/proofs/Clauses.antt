@@ -25,7 +25,7 @@ use Rattle.settlement.proofs.Laws.{settle_settled, settle_refusal_lem}
 use Rattle.settlement.proofs.Bounds.{settle_credit_most}
 use Rattle.pay_off.specs.PayOff.{PayOffNumbers, least_increase, most_increase, nothing_to_pay_off, wrong_increase, lump_sum_now, no_lump_sum_now, contract_refusal, contract_pay_off, pay_off_of}
 use Rattle.pay_off.specs.Clauses.{PayOffPriced, StatusPayable, IncreaseTaken, PayOffRefusals}
-use Rattle.pay_off.proofs.Costs.{increased_least, increased_none, price_least, price_none}
+use Rattle.pay_off.proofs.Costs.{increased_least, increased_none, cost_least, cost_none}
 use Rattle.pay_off.proofs.Contract.{contract_passes}
 use Rattle.pay_off.proofs.Complete.{complete_credit}
 use Rattle.pay_off.proofs.Laws.{settle_refuses, contract_decides, decided_number, priced_is}
@@ -65,7 +65,7 @@ module _ (t : Terms) (ms : List ℕ) (age_now increase : ℕ) where
   none_left z left =
       let is = (priced_is t ms age_now increase z).numbers in
       let rest = sym (ap (λ (n : PayOffNumbers). n.remaining) is) ∙ left in
-      rw is (rw rest (rw (increased_none increase) (refl, price_none _ _ t.pnpa_months)))
+      rw is (rw rest (rw (increased_none increase) (refl, cost_none _ _ t.pnpa_months)))
 
   rises : answer.refusal ≡ 0 → (answer.remaining ≤ answer.increased) × (answer.increased ≤ answer.cost)
   rises z =
@@ -74,7 +74,7 @@ module _ (t : Terms) (ms : List ℕ) (age_now increase : ℕ) where
       let age = (unrefused_terms t ms is.unrefused).pension_age in
       rw is.numbers (
         increased_least increase _ pass.increase_low,
-        price_least _ _ _ t.pnpa_months (omega (arith, age.months_high))
+        cost_least _ _ _ t.pnpa_months (omega (arith, age.months_high))
             (omega (arith, lower_above t age_now pass.printed))
             (λ odd. omega (arith, upper_above t age_now pass.printed odd)),
       )

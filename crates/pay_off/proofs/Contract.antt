@@ -20,7 +20,7 @@ use Rattle.election.proofs.Laws.{upper_rate_odd}
 use Rattle.pay_off.specs.LumpSumsNow.{SumsLookedUp, sum_or_none, upper_sum_or_none}
 use Rattle.pay_off.specs.Cost.{increased_by}
 use Rattle.pay_off.specs.PayOff.{PayOffNumbers, least_increase, most_increase, nothing_to_pay_off, wrong_increase, lump_sum_now, no_lump_sum_now, contract_refusal, refused_pay_off, remaining_of, priced_pay_off, contract_pay_off}
-use Rattle.pay_off.proofs.Costs.{price_upper}
+use Rattle.pay_off.proofs.Costs.{cost_upper}
 
 -- what nothing refuses
 pub record ContractPasses (t : Terms) (status age_now increase : ℕ) : Type 0 where
@@ -96,13 +96,13 @@ module _ (t : Terms) (status age_now increase : ℕ) where
         chosen_number (λ (n : PayOffNumbers). n.refusal) (contract_refusal t status age_now increase)
         (priced_pay_off t credit (lower t age_now) (upper t age_now) increase) (refused_pay_off (contract_refusal t status age_now increase) 0) refl refl
 
--- the price at the lump sums that were looked up
+-- the cost at the lump sums that were looked up
 pub price_is : (t : Terms) (credit age_now increase : ℕ) {sums : TableRates} → SumsLookedUp t age_now sums
     → priced_pay_off t credit sums.lower (upper_sum_or_none sums) increase ≡ priced_pay_off t credit (lower t age_now) (upper t age_now) increase
 price_is t credit age_now increase {sums} found =
     rw (
       found.low,
-      price_upper (increased_by increase (remaining_of t credit)) (lower t age_now) (upper_sum_or_none sums) (upper t age_now) t.pnpa_months found.high,
+      cost_upper (increased_by increase (remaining_of t credit)) (lower t age_now) (upper_sum_or_none sums) (upper t age_now) t.pnpa_months found.high,
     )
 
 -- an election by lump sum at the age now is refused for its rates just where the contract lacks a lump sum

@@ -44,16 +44,16 @@ twelfths_least (suc m) lower upper least h p q = weighted_least (suc m) lower up
 
 module _ (increased lower upper m : ℕ) (months : m ≤ 12) where
   -- at rates of £250 or more for £250 a year, a pension costs no less than itself
-  pub price_least : step_pence ≤ lower → (0 < m → step_pence ≤ upper) → increased ≤ cost_of increased lower upper m
+  pub cost_least : step_pence ≤ lower → (0 < m → step_pence ≤ upper) → increased ≤ cost_of increased lower upper m
   unfolding cost_of
-  price_least p q =
+  cost_least p q =
       at_least (increased * twelfths m lower upper) (months_in_year * step_pence) increased (omega arith)
       (omega (arith, mul-le-mul_left increased (twelfths_least m lower upper step_pence months p q)))
 
   -- what the greatest increased pension costs at the greatest lump sum
-  pub price_most : increased ≤ most_increased → lower ≤ most_lump_sum_rate → upper ≤ most_lump_sum_rate → cost_of increased lower upper m ≤ most_cost
+  pub greatest_cost : increased ≤ most_increased → lower ≤ most_lump_sum_rate → upper ≤ most_lump_sum_rate → cost_of increased lower upper m ≤ most_cost
   unfolding cost_of
-  price_most few p q =
+  greatest_cost few p q =
       at_most (increased * twelfths m lower upper) (months_in_year * step_pence) most_cost (omega arith)
       (omega (arith, mul-le-mul {n₁ = increased} {m₁ = twelfths m lower upper} {n₂ = most_increased} {m₂ = most_lump_sum_rate * 12} few (weighted_most m lower upper most_lump_sum_rate months p q)))
 
@@ -64,14 +64,14 @@ module _ (increased lower upper m : ℕ) (months : m ≤ 12) where
       (arith, mul-le-mul {n₁ = increased} {m₁ = twelfths m lower upper} {n₂ = 2 ^ 28 - 1} {m₂ = (2 ^ 32 - 1) * 12} (omega arith) (weighted_most m lower upper (2 ^ 32 - 1) months (omega arith) (omega arith)))
 
 -- nothing costs nothing
-pub price_none : (lower upper m : ℕ) → cost_of 0 lower upper m ≡ 0
+pub cost_none : (lower upper m : ℕ) → cost_of 0 lower upper m ≡ 0
 unfolding cost_of
-price_none lower upper m = omega (arith, at_most (0 * twelfths m lower upper) (months_in_year * step_pence) 0 (omega arith) (omega arith))
+cost_none lower upper m = omega (arith, at_most (0 * twelfths m lower upper) (months_in_year * step_pence) 0 (omega arith) (omega arith))
 
 -- at a whole pension age the upper rate does not matter
-pub price_upper : (increased lower a b m : ℕ) → ((m ≡ 0 → ⊥) → a ≡ b) → cost_of increased lower a m ≡ cost_of increased lower b m
+pub cost_upper : (increased lower a b m : ℕ) → ((m ≡ 0 → ⊥) → a ≡ b) → cost_of increased lower a m ≡ cost_of increased lower b m
 unfolding cost_of
-price_upper increased lower a b zero h =
+cost_upper increased lower a b zero h =
     let same : twelfths 0 lower a ≡ twelfths 0 lower b = omega arith in
     ap (λ (n : ℕ). half_up (increased * n) (months_in_year * step_pence)) same
-price_upper increased lower a b (suc m) h = ap (λ (u : ℕ). cost_of increased lower u (suc m)) (h (λ z. omega arith))
+cost_upper increased lower a b (suc m) h = ap (λ (u : ℕ). cost_of increased lower u (suc m)) (h (λ z. omega arith))

@@ -69,7 +69,7 @@ priced_pay_off t credit lower upper increase =
       cost = cost_of increased lower upper t.pnpa_months;
     }
 
--- a contract that Settle accepts, by its status and credit: a refusal, or its price at the age now
+-- a contract that Settle accepts, by its status and credit: a refusal, or what it costs at the age now
 unfoldable pub contract_pay_off : Terms → (status credit age_now increase : ℕ) → PayOffNumbers
 contract_pay_off t status credit age_now increase =
     pick (eqb (contract_refusal t status age_now increase) 0)
@@ -83,7 +83,7 @@ pay_off_of t marks age_now increase =
     pick (eqb settled.refusal 0) (contract_pay_off t settled.status settled.credit age_now increase)
     (refused_pay_off settled.refusal settled.place)
 
--- document 02's numbers of a price, and for each case of an answer
+-- document 02's numbers of a pay-off that is not refused, and for each case of an answer
 abbrev pub priced_numbers : PayOff → PayOffNumbers
 priced_numbers p = record { refusal = 0; place = 0; remaining = p.remaining.0; increased = p.increased.0; cost = p.cost.0 }
 

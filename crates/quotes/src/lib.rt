@@ -18,7 +18,7 @@ pub struct Register {
     pub last: u32,
 }
 
-// What an election costs, and the number under which it was quoted.
+// The contribution of an election, and the number under which it was quoted.
 #[derive(Clone, Copy, Debug, PartialEq, Eq)]
 pub struct QuoteMade {
     pub contribution: ContributionPence,

@@ -16,7 +16,7 @@ use Rattle.reduction.specs.Answer.{ReductionNumbers, potential_shown, refused_wi
 use Rattle.reduction.specs.Clauses.{given_for, CandidateShown, ReductionRefusals, ReductionAnswered}
 use Rattle.reduction.proofs.Near.{near_wider}
 use Rattle.reduction.proofs.Range.{in_range, not_out, out_by}
-use Rattle.reduction.proofs.Headroom.{takes_none}
+use Rattle.reduction.proofs.Headroom.{taken_none}
 use Rattle.reduction.proofs.Candidates.{earliest_age, below_npa_lem, is_below, first_below, close_at}
 use Rattle.reduction.proofs.Earliest.{given_earliest, none_given, given_none}
 
@@ -66,7 +66,7 @@ module _ (a : Application) where
     untested none =
         rw (
           below_npa_lem a 0 (first_below a (in_range a in_it)),
-          takes_none (potential_at a 0) a.existing.0 a.limit.0 (le-ltb 0 a.existing.0 (omega arith)),
+          taken_none (potential_at a 0) a.existing.0 a.limit.0 (le-ltb 0 a.existing.0 (omega arith)),
         )
 
     -- what is shown, and what is not

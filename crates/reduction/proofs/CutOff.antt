@@ -11,9 +11,9 @@ use Rattle.reduction.specs.CutOff.{candidate_is_taken_cut_off}
 use Rattle.reduction.proofs.Headroom.{below_cut}
 
 -- each candidate is taken just where it was
-pub takes_cut : (a : Application) (k : ℕ) → candidate_is_taken_cut_off a k ≡ candidate_is_taken a k
+pub taken_cut : (a : Application) (k : ℕ) → candidate_is_taken_cut_off a k ≡ candidate_is_taken a k
 unfolding candidate_is_taken_cut_off candidate_is_taken is_taken
-takes_cut a k =
+taken_cut a k =
     ap (λ (t : Bool). eqb a.existing.0 0 || t)
     (sym (below_cut (potential_at a k) (headroom (potential_at a k) a.existing.0 a.limit.0)))
 
@@ -25,4 +25,4 @@ search_same a s t same k (suc n) = rw (same k, search_same a s t same (suc k) n)
 
 pub cut_off_same : (a : Application) → reduction_by (candidate_is_taken_cut_off a) a ≡ reduction_limit_of a
 unfolding reduction_limit_of reduction_by
-cut_off_same a = rw (search_same a (candidate_is_taken_cut_off a) (candidate_is_taken a) (takes_cut a) 0 3)
+cut_off_same a = rw (search_same a (candidate_is_taken_cut_off a) (candidate_is_taken a) (taken_cut a) 0 3)

@@ -17,17 +17,17 @@ use Rattle.reduction.specs.Clauses.{PassingCandidate, EarliestPassing, NonePassi
 use Rattle.reduction.proofs.Candidates.{search_from, earliest_age, candidate_least, candidates_rise, is_below, is_not_below}
 
 -- the test as a statement, both ways
-takes_room : (b existing limit : ℕ) → is_taken b existing limit ≡ true → (existing ≡ 0) ⊎ (pos b <ℤ headroom b existing limit)
+taken_room : (b existing limit : ℕ) → is_taken b existing limit ≡ true → (existing ≡ 0) ⊎ (pos b <ℤ headroom b existing limit)
 unfolding is_taken
-takes_room b existing limit e =
+taken_room b existing limit e =
     by_test (eqb existing 0)
     (λ z. inl (eqb-true existing 0 z))
     (λ z. inr (record { lt = subst T (sym (rw z at e)) tt }))
 
-room_takes : (b existing limit : ℕ) → (existing ≡ 0) ⊎ (pos b <ℤ headroom b existing limit) → is_taken b existing limit ≡ true
+room_taken : (b existing limit : ℕ) → (existing ≡ 0) ⊎ (pos b <ℤ headroom b existing limit) → is_taken b existing limit ≡ true
 unfolding is_taken
-room_takes b existing limit (inl z) = rw (eq-eqb existing 0 z)
-room_takes b existing limit (inr h) = by_test (eqb existing 0) (λ z. rw z) (λ z. rw z (holds _ h.lt))
+room_taken b existing limit (inl z) = rw (eq-eqb existing 0 z)
+room_taken b existing limit (inr h) = by_test (eqb existing 0) (λ z. rw z) (λ z. rw z (holds _ h.lt))
   where
     holds : (t : Bool) → T t → t ≡ true
     holds true p = refl
@@ -52,11 +52,11 @@ module _ (a : Application) where
 
   left : (k : ℕ) → candidate_is_taken a k ≡ false → PassingCandidate a k → ⊥
   unfolding candidate_is_taken
-  left k e p = never (sym e ∙ room_takes _ _ _ p.room)
+  left k e p = never (sym e ∙ room_taken _ _ _ p.room)
 
   passing : (k : ℕ) → below_npa a k ≡ true → candidate_is_taken a k ≡ true → PassingCandidate a k
   unfolding candidate_is_taken
-  passing k b t = record { below = is_below a k b; room = takes_room _ _ _ t }
+  passing k b t = record { below = is_below a k b; room = taken_room _ _ _ t }
 
   ended : (k n : ℕ) → ((j : ℕ) → k ≤ j → PassingCandidate a j → ⊥) → Searched a k n 0
   ended k n h = record { given = λ z. absurd (z refl); none = λ z j p q. h j p }

@@ -45,13 +45,13 @@ cut_headroom b existing limit =
     (λ e. let h = ltb-false b limit (sym (both_less b limit existing) ∙ e) in rw e (cut_difference b existing ∙ omega arith))
 
 -- without existing pension the candidate is taken, and else by L − A cut off: B − A is below B
-pub takes_none : (b existing limit : ℕ) → ltb 0 existing ≡ false → is_taken b existing limit ≡ true
+pub taken_none : (b existing limit : ℕ) → ltb 0 existing ≡ false → is_taken b existing limit ≡ true
 unfolding is_taken
-takes_none b existing limit e = rw (eq-eqb existing 0 (omega (arith, ltb-false 0 existing e)))
+taken_none b existing limit e = rw (eq-eqb existing 0 (omega (arith, ltb-false 0 existing e)))
 
-pub takes_some : (b existing limit : ℕ) → ltb 0 existing ≡ true → is_taken b existing limit ≡ ltb b (limit - existing)
+pub taken_some : (b existing limit : ℕ) → ltb 0 existing ≡ true → is_taken b existing limit ≡ ltb b (limit - existing)
 unfolding is_taken
-takes_some b existing limit e =
+taken_some b existing limit e =
     let some = ltb-true 0 existing e in
     rw (ne_eqb existing 0 (λ z. omega arith))
     (below_cut b (headroom b existing limit) ∙ ap (ltb b) (cut_headroom b existing limit)

@@ -125,7 +125,7 @@ impl Application {
 
     // Whether a candidate is taken: untested without existing pension, else if B < C. Of the two in C only L − A can be above B; and as B
     // is not below zero, L − A may be cut off at 0.
-    #[tactic(auto, using(crate::proofs::Headroom::takes_none, crate::proofs::Headroom::takes_some))]
+    #[tactic(auto, using(crate::proofs::Headroom::taken_none, crate::proofs::Headroom::taken_some))]
     fn is_taken(self, b: PensionPence) -> bool
         ensures { result ≡ is_taken b.0 self.existing.0 self.limit.0 }
     {

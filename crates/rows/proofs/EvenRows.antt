@@ -7,7 +7,7 @@ use Rattle.rounding.specs.HalfEven.{off_by, nearer, half_even}
 use Rattle.rounding.specs.Nearest.{nearest, blend, combine}
 use Rattle.rates.specs.Rates.{table_of, cell_of, rate_by, rate_of}
 use Rattle.terms.specs.Rate.{rate_for, table_rate}
-use Rattle.election.specs.Contribution.{contribution_at, contribution_in, contribution_of}
+use Rattle.election.specs.ContributionOf.{contribution_at, contribution_in, contribution_of}
 use Rattle.years.specs.Years.{year_credit, year_credits, month_value}
 use Rattle.credit.specs.Runs.{runs_from, run_from, runs_in}
 use Rattle.credit.specs.Credit.{sum_over_runs, credit_over, credit_in}

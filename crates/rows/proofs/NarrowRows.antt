@@ -5,7 +5,7 @@ use mathlib.Core.Path.{◌≡◌, refl}
 use Rattle.rounding.specs.Nearest.{combine}
 use Rattle.rates.specs.Rates.{table_of, cell_of, rate_by, rate_of}
 use Rattle.terms.specs.Rate.{rate_for, table_rate}
-use Rattle.election.specs.Contribution.{contribution_at, contribution_in, contribution_of}
+use Rattle.election.specs.ContributionOf.{contribution_at, contribution_in, contribution_of}
 use Rattle.rows.specs.Rows.{Row}
 use Rattle.rows.specs.NarrowRows.{narrow_rows}
 

@@ -8,7 +8,7 @@ use Rattle.rounding.specs.Nearest.{half_up, nearest, blend, combine}
 use Rattle.rates.specs.Rates.{table_of, cell_of, rate_by, rate_of, lump_column, lump_rate_of}
 use Rattle.terms.specs.Rate.{rate_for, table_rate}
 use Rattle.terms.specs.Rules.{wrong_option, wrong_pension_age, wrong_term, wrong_payer, no_rate, no_upper_rate, wrong_amount, above_cap, refusal_of}
-use Rattle.election.specs.Contribution.{contribution_at, contribution_in, contribution_of}
+use Rattle.election.specs.ContributionOf.{contribution_at, contribution_in, contribution_of}
 use Rattle.marks.specs.Counts.{last_or, are_all_paid, paid_months, paid_through, final_gap}
 use Rattle.marks.specs.Refusal.{mark_refusal, first_refusal, marks_refusal}
 use Rattle.marks.specs.Status.{stopped_of, status_of}

@@ -5,7 +5,7 @@
 use Rattle.std.specs.Prelude.{List, [], ◌∷◌, ◌++◌, ℕ, ◌+◌, ◌*◌}
 use Rattle.rounding.specs.Nearest.{nearest, combine_by}
 use Rattle.terms.specs.declared.Terms.{Terms}
-use Rattle.election.specs.Contribution.{contribution_in, contribution_of}
+use Rattle.election.specs.ContributionOf.{contribution_in, contribution_of}
 use Rattle.years.specs.Years.{year_credit}
 use Rattle.years.specs.Elected.{purchase_in}
 use Rattle.credit.specs.Credit.{credit_in}

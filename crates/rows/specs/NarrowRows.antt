@@ -4,7 +4,7 @@ use Rattle.std.specs.Prelude.{List, [], ◌∷◌}
 use Rattle.rates.specs.Rates.{rate_of}
 use Rattle.lookup.specs.Narrow.{tenths_in_pence}
 use Rattle.terms.specs.declared.Terms.{Terms}
-use Rattle.election.specs.Contribution.{contribution_of}
+use Rattle.election.specs.ContributionOf.{contribution_of}
 use Rattle.rows.specs.Rows.{Row, ◌is◌, only}
 
 -- the whole cap from age 63, with dependant's pension, over one year: the one term for which D65 has a rate at that age

@@ -5,7 +5,7 @@ use Rattle.std.specs.Prelude.{List, [], ◌∷◌, ◌++◌, ℕ, ◌*◌, ◌/�
 use Rattle.rounding.specs.Nearest.{nearest, blend}
 use Rattle.terms.specs.declared.Terms.{Terms}
 use Rattle.terms.specs.Rules.{refusal_of}
-use Rattle.election.specs.Contribution.{contribution_of}
+use Rattle.election.specs.ContributionOf.{contribution_of}
 use Rattle.years.specs.Years.{year_credit, year_credits, month_numerator, month_value}
 use Rattle.years.specs.Elected.{purchase_in}
 use Rattle.distance.specs.Fraction.{Fraction}
@@ -40,7 +40,7 @@ five_years = at50 65 5 1000
 abbrev pub odd_months : Terms
 odd_months = record { age = 54; pnpa_years = 66; pnpa_months = 5; option = 2; payer = 1; term = 10; amount = 1750 }
 
--- the costs of both; two credits at 5 odd months; £250 and £500 beside an existing £6,250
+-- the contributions of both; two credits at 5 odd months; £250 and £500 beside an existing £6,250
 unfoldable pub price_rows : List Row
 price_rows =
     (only (contribution_of nine_years) is only 17150)
@@ -79,12 +79,13 @@ undivided n d = n
 abbrev pub twelfths_at : Terms → ℕ → ℕ
 twelfths_at t month = month_numerator (year_credit nearest (purchase_in t t.pnpa_years)) month
 
--- year 1 and five paid months of the first contract; years 1 to 5, 18 paid months and the gap of the second
+-- year 1 and five paid months of the first contract; years 1 to 5, all twenty-one places, 18 paid months and the gap of the second
 unfoldable pub credit_rows : List Row
 credit_rows =
     (first_years 2 nine_years is (0 ∷ 17198 ∷ []))
     ∷ (settle_figures nine_years (paid_for 5) is (0 ∷ 0 ∷ 17150 ∷ 1 ∷ 7166 ∷ 0 ∷ []))
     ∷ (first_years 6 five_years is (0 ∷ 22259 ∷ 43338 ∷ 63285 ∷ 82201 ∷ 100000 ∷ []))
+    ∷ (first_years 22 five_years is (0 ∷ 22259 ∷ 43338 ∷ 63285 ∷ 82201 ∷ 100000 ∷ replicate 15 0))
     ∷ (settle_figures five_years (paid_for 18) is (0 ∷ 0 ∷ 24200 ∷ 1 ∷ 32798 ∷ 0 ∷ []))
     ∷ (only (twelfths_at five_years 18) is only 393582)
     ∷ ((value_at five_years 18 ∷ value_at five_years 28 ∷ value_at five_years 22 ∷ []) is (32798 ∷ 49987 ∷ 39825 ∷ []))

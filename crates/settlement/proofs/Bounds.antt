@@ -17,7 +17,7 @@ use Rattle.scheme.specs.Scheme.{pounds_in_pence, longest_term, most_marks, open_
 use Rattle.scheme.specs.Bounds.{most_monthly_contribution, most_refund, last_settle_refusal}
 use Rattle.terms.specs.declared.Terms.{Terms}
 use Rattle.terms.specs.Rules.{refusal_of}
-use Rattle.election.specs.Contribution.{contribution_of}
+use Rattle.election.specs.ContributionOf.{contribution_of}
 use Rattle.terms.proofs.Laws.{refusal_most}
 use Rattle.election.proofs.Laws.{terms_accepted, contribution_most, monthly_most, contribution_least}
 use Rattle.marks.specs.Counts.{paid_months}

@@ -16,7 +16,7 @@ use Rattle.rounding.specs.Nearest.{nearest, combine}
 use Rattle.rounding.proofs.InForce.{nearest_within_half, nearest_monotone}
 use Rattle.terms.specs.declared.Terms.{Terms}
 use Rattle.terms.specs.Rules.{refusal_of}
-use Rattle.election.specs.Contribution.{contribution_of}
+use Rattle.election.specs.ContributionOf.{contribution_of}
 use Rattle.election.proofs.Laws.{terms_accepted}
 use Rattle.refusals.specs.Places.{RefusedAt}
 use Rattle.marks.specs.Lawful.{Lawful, LawfulFor}

@@ -12,7 +12,7 @@ use Rattle.rounding.proofs.InForce.{nearest_within_half}
 use Rattle.rates.specs.Rates.{rate_of}
 use Rattle.terms.specs.declared.Terms.{Terms}
 use Rattle.election.specs.declared.TableRates.{TableRates}
-use Rattle.election.specs.Contribution.{contribution_at, contribution_in}
+use Rattle.election.specs.ContributionOf.{contribution_at, contribution_in}
 use Rattle.election.specs.LookedUp.{rates_of}
 use Rattle.election.specs.TermsAccepted.{TermsAccepted}
 use Rattle.terms.specs.Rate.{units_of}
@@ -76,10 +76,10 @@ module _ (t : Terms) (a : TermsAccepted t 0) (monthly : 0 < t.term) where
         mul-le-mul {n₁ = length ms} {m₁ = pounds_in_pence t.amount} {n₂ = most_marks} {m₂ = cap_pence} few (omega (arith, a.under_cap)),
       )
 
--- a table's own contribution, by which its credit is worked out, is the one that the terms are priced by
-pub own_is_priced : (t : Terms) (p : ℕ) → 0 < t.term → own_contribution (purchase_in t p) ≡ contribution_in t p
+-- a table's own contribution, by which its credit is worked out, is the one that the terms have
+pub own_is_contribution : (t : Terms) (p : ℕ) → 0 < t.term → own_contribution (purchase_in t p) ≡ contribution_in t p
 unfolding contribution_in contribution_at
-own_is_priced t p monthly = rw (monthly_rate t p monthly)
+own_is_contribution t p monthly = rw (monthly_rate t p monthly)
 
 -- the credit of a contract is that of its tables combined
 pub credit_combined : (t : Terms) (ms : List ℕ)

@@ -4,7 +4,7 @@ use Rattle.std.specs.Prelude.{Result, Ok, Err, List, ℕ, ◌*◌, eqb}
 use Rattle.common.specs.Choice.{pick}
 use Rattle.scheme.specs.Scheme.{pounds_in_pence, open_months}
 use Rattle.terms.specs.declared.Terms.{Terms}
-use Rattle.election.specs.Contribution.{contribution_of}
+use Rattle.election.specs.ContributionOf.{contribution_of}
 use Rattle.refusals.specs.declared.Refused.{Refused}
 use Rattle.refusals.specs.Numbers.{refusal_number}
 use Rattle.marks.specs.Counts.{paid_months}

@@ -76,7 +76,7 @@ fn refund_at_status(own: ContributionPence, status: Status, paid_months: usize) 
 }
 
 // Contribution, status, credit and refund; or the first refusal and its place.
-#[tactic(auto, using(common::proofs::Tests::tests, refusals::proofs::Numbers::refusal_positive, examination::proofs::Laws::settled_few, examination::proofs::Unrefused::told_monthly, crate::proofs::Demand::demand_3, crate::proofs::Marks::same_marks_answered), unfolding(crate::specs::Settle::settle_of, crate::specs::Settle::refund_at_status))]
+#[tactic(auto, using(common::proofs::Tests::tests, refusals::proofs::Numbers::refusal_positive, examination::proofs::Laws::settled_few, examination::proofs::Unrefused::examined_monthly, crate::proofs::Demand::demand_3, crate::proofs::Marks::same_marks_answered), unfolding(crate::specs::Settle::settle_of, crate::specs::Settle::refund_at_status))]
 pub fn settle(t: Terms, marks: &[u8]) -> Result<Settlement, Refused>
     ensures is { numbers_of_settlement result ≡ settle_of t marks.now }
     ensures distance { Demand3 t marks.now (numbers_of_settlement result) }

@@ -32,16 +32,16 @@ terms_rules_pass t z =
     let r4 = passed (wrong_payer t) 4 0 (omega arith) r3.1 in
     record { option = r1.0; pension_age = r2.0; term = r3.0; payer = r4.0 }
 
--- what passes where a price does
-pub record PricePass (t : Terms) (existing : ℕ) : Type 0 where
+-- what passes where the last four rules do
+pub record LastFourPass (t : Terms) (existing : ℕ) : Type 0 where
   pub rate : no_rate t ≡ false
   pub upper : no_upper_rate t ≡ false
   pub amount : wrong_amount t ≡ false
   pub cap : above_cap t existing ≡ false
 
-pub price_rules_pass : (t : Terms) (existing : ℕ) → last_four_refusal t existing ≡ 0 → PricePass t existing
+pub last_four_pass : (t : Terms) (existing : ℕ) → last_four_refusal t existing ≡ 0 → LastFourPass t existing
 unfolding last_four_refusal
-price_rules_pass t existing z =
+last_four_pass t existing z =
     let r5 = passed (no_rate t) 5 _ (omega arith) z in
     let r6 = passed (no_upper_rate t) 6 _ (omega arith) r5.1 in
     let r7 = passed (wrong_amount t) 7 _ (omega arith) r6.1 in
@@ -70,24 +70,24 @@ module _ (t : Terms) (existing : ℕ) where
   pub terms_decide : (first_four_refusal t ≡ 0 → ⊥) → refusal_of t existing ≡ first_four_refusal t
   terms_decide h = halves ∙ first_refuses (first_four_refusal t) (last_four_refusal t existing) h
 
-  pub price_decides : first_four_refusal t ≡ 0 → refusal_of t existing ≡ last_four_refusal t existing
-  price_decides h = halves ∙ first_passes (first_four_refusal t) (last_four_refusal t existing) h
+  pub last_four_decide : first_four_refusal t ≡ 0 → refusal_of t existing ≡ last_four_refusal t existing
+  last_four_decide h = halves ∙ first_passes (first_four_refusal t) (last_four_refusal t existing) h
 
   pub none_refuses : refusal_of t existing ≡ 0 → (first_four_refusal t ≡ 0) × (last_four_refusal t existing ≡ 0)
   none_refuses z = both_pass (first_four_refusal t) (last_four_refusal t existing) (sym halves ∙ z)
 
 -- the second half is its first two rules, and where they pass the other two
-price_parts : (a b : Bool) (rest : ℕ) → pick a 5 (pick b 6 rest) ≡ first_of (pick a 5 (pick b 6 0)) rest
-price_parts true b rest = refl
-price_parts false true rest = refl
-price_parts false false rest = refl
+last_four_parts : (a b : Bool) (rest : ℕ) → pick a 5 (pick b 6 rest) ≡ first_of (pick a 5 (pick b 6 0)) rest
+last_four_parts true b rest = refl
+last_four_parts false true rest = refl
+last_four_parts false false rest = refl
 
 -- the chain in the three parts that the code asks one after the other
 pub in_parts : (t : Terms) (existing : ℕ)
     → refusal_of t existing ≡ first_of (first_four_refusal t) (first_of (rate_refusal t) (amount_refusal t existing))
 unfolding last_four_refusal rate_refusal amount_refusal
 in_parts t existing =
-    halves t existing ∙ ap (λ (rest : ℕ). first_of (first_four_refusal t) rest) (price_parts (no_rate t) (no_upper_rate t) _)
+    halves t existing ∙ ap (λ (rest : ℕ). first_of (first_four_refusal t) rest) (last_four_parts (no_rate t) (no_upper_rate t) _)
 
 -- so the first part that refuses decides
 module _ (t : Terms) (existing : ℕ) (terms : first_four_refusal t ≡ 0) where

@@ -17,7 +17,7 @@ use Rattle.terms.specs.Rate.{table_rate}
 use Rattle.terms.specs.Rules.{missing_upper, no_rate, no_upper_rate, wrong_amount, above_cap, refusal_of}
 use Rattle.terms.specs.RefusalParts.{last_four_refusal}
 use Rattle.terms.specs.Printed.{MonthlyPrintedFor, LacksRate, LacksUpperRate, FirstFourPass, PrintedRefusals}
-use Rattle.terms.proofs.Laws.{first_four_pass, price_decides, lump_rate, monthly_rate, lower_rate_some}
+use Rattle.terms.proofs.Laws.{first_four_pass, last_four_decide, lump_rate, monthly_rate, lower_rate_some}
 
 -- a number that cannot be above 0 is 0
 not_above : (n : ℕ) → (0 < n → ⊥) → n ≡ 0
@@ -126,7 +126,7 @@ module _ (t : Terms) (existing : ℕ) where
   pub printed_refusals : FirstFourPass t → PrintedRefusals t existing
   unfolding last_four_refusal
   printed_refusals pass =
-      let whole = price_decides t existing (first_four_pass t pass) in
+      let whole = last_four_decide t existing (first_four_pass t pass) in
       record {
         five = λ e. no_rate_says t (refuses_just (no_rate t) 5 _ five_other (sym whole ∙ e));
         just_five = λ n. whole ∙ rw (says_no_rate t n);

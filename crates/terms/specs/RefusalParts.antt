@@ -9,7 +9,7 @@ use Rattle.terms.specs.Rules.{wrong_option, wrong_pension_age, wrong_term, wrong
 unfoldable pub first_four_refusal : Terms → ℕ
 first_four_refusal t = pick (wrong_option t) 1 (pick (wrong_pension_age t) 2 (pick (wrong_term t) 3 (pick (wrong_payer t) 4 0)))
 
--- and of the others, which a price has to pass
+-- and of the others, 5 to 8
 unfoldable pub last_four_refusal : Terms → (existing : ℕ) → ℕ
 last_four_refusal t existing =
     pick (no_rate t) 5 (pick (no_upper_rate t) 6 (pick (wrong_amount t) 7 (pick (above_cap t existing) 8 0)))

@@ -26,8 +26,8 @@ by_marks : (t : Terms) (ms : List ℕ) (r : ReadSoFar) → refusal_of t 0 ≡ 0 
 by_marks t ms r pass e =
     rw (e, marks_number open_months t.term ms, marks_place open_months t.term ms) (sym (refused_by_marks t ms pass))
 
-pub returns-clause-told : goal.returns-clause-told
-returns-clause-told c =
+pub returns-clause-found : goal.returns-clause-found
+returns-clause-found c =
     let t = c.args.t in
     let read = c.in_ok-reading.ensures in
     let pass = sym (with_nothing t c.in_ok-election.ensures.refusal c.none.ensures) in

@@ -72,13 +72,13 @@ pub of-requires : goal.of-requires
 of-requires c =
     let e = c.in_ok-examined.ensures in
     let some = eqb-false (length c.args.marks.now) 0 (sym c.if-is_empty.ensures) in
-    rw e.told.terms (monthly c.args.t c.args.marks.now e.refusal some)
+    rw e.found.terms (monthly c.args.t c.args.marks.now e.refusal some)
 
 pub returns : goal.returns
 unfolding at_list
 returns c =
     let t = c.args.t in
     let e = c.in_ok-examined.ensures in
-    let same = c.of.ensures ∙ e.told.terms in
+    let same = c.of.ensures ∙ e.found.terms in
     ap at_list (c.fill.ensures ∙ ap (λ (t : Terms). filled_of t c.args.marks.now c.args.out.now) same)
     ∙ filled t c.args.marks.now _ e.refusal c.if-out-marks.false

@@ -6,7 +6,7 @@ use Prim.Native.Nat.{ℕ, ◌≤◌, ◌<◌, ◌^◌}
 use native.Mathlib.Omega.{arith}
 use Rattle.scheme.specs.Scheme.{most_marks}
 use Rattle.refusals.specs.Places.{refusing}
-use Rattle.election.specs.Contribution.{contribution_of}
+use Rattle.election.specs.ContributionOf.{contribution_of}
 use Rattle.election.proofs.Laws.{contribution_most}
 use Rattle.terms.specs.declared.Terms.{Terms}
 use Rattle.marks.proofs.Counts.{months_most}
@@ -29,4 +29,4 @@ module _ (t : Terms) (ms : List ℕ) where
 pub refund_at_status-requires : goal.refund_at_status-requires
 refund_at_status-requires c =
     let e = c.in_ok-e.ensures in
-    small c.args.t c.args.marks.now e.refusal e.told c.contribution-contribution.ensures
+    small c.args.t c.args.marks.now e.refusal e.found c.contribution-contribution.ensures
