@@ -2,7 +2,7 @@
  * Additional Pension of the HSC Pension Scheme 2015: quoting an election, settling a contract and paying off its rest; and, by
  * the guidance of the NHS Pension Scheme 2015, the limit on buying out the reduction of an early pension.
  *
- * Link with libhost.a (x86-64). The four functions are proved to keep their rules for every number that they are given. They
+ * Link with libadditional_pension.a (x86-64). The four functions are proved to keep their rules for every number that they are given. They
  * allocate nothing, keep nothing between calls and end for every input; calls from several threads do not disturb each other.
  *
  * What a caller owes. Of the numbers, nothing: every number has an answer, and what the scheme does not allow is refused. Of

@@ -1,4 +1,4 @@
-//! Links the proved archive, `libhost.a`.
+//! Links the proved archive, `libadditional_pension.a`.
 
 use std::env;
 use std::path::PathBuf;
@@ -9,7 +9,7 @@ const FOLDER: &str = "ADDITIONAL_PENSION_LIB";
 fn main() {
     let package = PathBuf::from(env::var_os("CARGO_MANIFEST_DIR").expect("cargo names the package's folder"));
     let folder = env::var_os(FOLDER).map_or_else(|| package.join("../../target/staticlib"), PathBuf::from);
-    let archive = folder.join("libhost.a");
+    let archive = folder.join("libadditional_pension.a");
     println!("cargo::rerun-if-env-changed={FOLDER}");
     println!("cargo::rerun-if-changed={}", archive.display());
     if !archive.is_file() {
@@ -20,5 +20,5 @@ fn main() {
         return;
     }
     println!("cargo::rustc-link-search=native={}", folder.display());
-    println!("cargo::rustc-link-lib=static=host");
+    println!("cargo::rustc-link-lib=static=additional_pension");
 }

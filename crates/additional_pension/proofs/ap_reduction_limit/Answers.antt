@@ -1,8 +1,8 @@
 -- `host::ap_reduction_limit` meets its contract: in a buffer that is long enough the numbers of the reduction limit are stored.
 -- Assumes nothing.
 use native.Mathlib.Omega.{arith}
-use Rattle.host.proofs.Calls.{reduction_stored}
-use Rattle.host.proofs.ap_reduction_limit.Goals as goal
+use Rattle.additional_pension.proofs.Calls.{reduction_stored}
+use Rattle.additional_pension.proofs.ap_reduction_limit.Goals as goal
 
 pub returns : goal.returns
 returns c =

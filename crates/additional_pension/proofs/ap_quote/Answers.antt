@@ -1,7 +1,7 @@
 -- `host::ap_quote` meets its contract: in a buffer that is long enough the numbers of Quote are stored.
 -- Assumes nothing.
-use Rattle.host.proofs.Calls.{quote_stored}
-use Rattle.host.proofs.ap_quote.Goals as goal
+use Rattle.additional_pension.proofs.Calls.{quote_stored}
+use Rattle.additional_pension.proofs.ap_quote.Goals as goal
 
 pub returns : goal.returns
 returns c =

@@ -7,7 +7,7 @@ ghost use Rattle.std.specs.Prelude.{◌≡◌, [], ◌∷◌};
 ghost use Rattle.quotes.specs.Quote.{numbers_of_quote};
 ghost use Rattle.pay_off.specs.PayOff.{numbers_of_pay_off};
 ghost use Rattle.reduction.specs.Answer.{numbers_of_reduction};
-ghost use Rattle.host.specs.Calls.{terms_of, application_of, host_quote_of, host_settle_of, host_pay_off_of, host_reduction_limit_of};
+ghost use Rattle.additional_pension.specs.Calls.{terms_of, application_of, host_quote_of, host_settle_of, host_pay_off_of, host_reduction_limit_of};
 
 use money::PensionPence;
 use pay_off::PayOff;

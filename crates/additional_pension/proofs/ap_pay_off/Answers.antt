@@ -1,7 +1,7 @@
 -- `host::ap_pay_off` meets its contract: in a buffer that is long enough the numbers of the pay-off are stored.
 -- Assumes nothing.
-use Rattle.host.proofs.Calls.{pay_off_stored}
-use Rattle.host.proofs.ap_pay_off.Goals as goal
+use Rattle.additional_pension.proofs.Calls.{pay_off_stored}
+use Rattle.additional_pension.proofs.ap_pay_off.Goals as goal
 
 pub returns : goal.returns
 returns c =

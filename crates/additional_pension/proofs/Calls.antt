@@ -19,7 +19,7 @@ use Rattle.pay_off.proofs.Bounds.{pay_off_bounds}
 use Rattle.reduction.specs.declared.Application.{Application}
 use Rattle.reduction.specs.Answer.{ReductionNumbers, reduction_limit_of}
 use Rattle.reduction.proofs.Bounds.{reduction_bounds}
-use Rattle.host.specs.Calls.{answer_in, quote_bytes, settle_bytes, pay_off_bytes, reduction_bytes, host_quote_of, host_settle_of, host_pay_off_of, host_reduction_limit_of}
+use Rattle.additional_pension.specs.Calls.{answer_in, quote_bytes, settle_bytes, pay_off_bytes, reduction_bytes, host_quote_of, host_settle_of, host_pay_off_of, host_reduction_limit_of}
 
 short : (size refusal : ℕ) (result buffer : List ℕ) → length buffer < size
     → (14 ≡ (answer_in size refusal result buffer).value) × (buffer ≡ (answer_in size refusal result buffer).buffer)

@@ -21,9 +21,9 @@ use Rattle.reduction.specs.Answer.{ReductionNumbers, reduction_limit_of}
 use Rattle.reduction.specs.Bounds.{ReductionBounds}
 use Rattle.reduction.proofs.Bounds.{reduction_bounds}
 use Rattle.number_bytes.specs.Bytes.{low_bytes, eight_bytes, in_bytes}
-use Rattle.host.specs.Calls.{quote_bytes, settle_bytes, pay_off_bytes, reduction_bytes, host_quote_of, host_settle_of, host_pay_off_of, host_reduction_limit_of}
-use Rattle.host.specs.ReadBack.{number_in_bytes, number_at, QuoteRead, SettleRead, PayOffRead, ReductionRead}
-use Rattle.host.proofs.Calls.{quote_enough, settle_enough, pay_off_enough, reduction_enough}
+use Rattle.additional_pension.specs.Calls.{quote_bytes, settle_bytes, pay_off_bytes, reduction_bytes, host_quote_of, host_settle_of, host_pay_off_of, host_reduction_limit_of}
+use Rattle.additional_pension.specs.ReadBack.{number_in_bytes, number_at, QuoteRead, SettleRead, PayOffRead, ReductionRead}
+use Rattle.additional_pension.proofs.Calls.{quote_enough, settle_enough, pay_off_enough, reduction_enough}
 
 low_back : (k n : ℕ) → n < 256 ^ k → number_in_bytes (low_bytes k n) ≡ n
 unfolding number_in_bytes low_bytes
