@@ -4,3 +4,4 @@ pub mod Keeping
 pub mod Settling
 pub mod Last
 pub mod Laws
+pub mod Parts
