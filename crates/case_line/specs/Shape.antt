@@ -1,20 +1,20 @@
--- Document 01, "The case file": what a line says.
+-- "The case file", F3: what a line says.
 -- Assumes nothing.
 use Rattle.std.specs.Prelude.{Bool, true, false, List, [], ◌∷◌, Option, Some, None, ℕ, ◌-◌, ltb, take, drop}
 use Rattle.common.specs.Choice.{pick}
 use Rattle.text.specs.Field.{field_of}
 use Rattle.case_line.specs.declared.Case.{Case}
 
--- the columns from a to b, counted from 1
+-- F3: the columns from a to b, counted from 1
 abbrev pub columns : ℕ → ℕ → List ℕ → List ℕ
 columns a b line = take (b - (a - 1)) (drop (a - 1) line)
 
--- nothing, a wrong shape, where a field says no number, else what follows from its number
+-- F4: nothing, a wrong shape, where a field says no number, else what follows from its number
 abbrev pub on_number : Option ℕ → (ℕ → Option Case) → Option Case
 on_number (Some n) next = next n
 on_number None next = None
 
--- the eight fields in their columns
+-- F3: the eight fields in their columns
 unfoldable pub fields_of : List ℕ → Option Case
 fields_of line =
     on_number (field_of (columns 1 6 line)) (λ election.
@@ -30,12 +30,12 @@ fields_of line =
       terms = record { age = age; pnpa_years = pnpa_years; pnpa_months = pnpa_months; option = option; payer = payer; term = term; amount = amount };
     })))))))))
 
--- from 30 the marks: digits, nothing between
+-- F3: from 30 the marks: digits, nothing between
 unfoldable pub all_digits : List ℕ → Bool
 all_digits [] = true
 all_digits (b ∷ bs) = pick (ltb b 48) false (pick (ltb 57 b) false (all_digits bs))
 
--- the numbers that the digits are
+-- F3: the numbers that the digits are
 unfoldable pub marks_in : List ℕ → List ℕ
 marks_in [] = []
 marks_in (b ∷ bs) = (b - 48) ∷ marks_in bs

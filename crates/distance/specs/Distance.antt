@@ -1,4 +1,4 @@
--- Demand 3 of document 01: the credit against the exact credit, of a contract at any pension age, by any rounding.
+-- "The exact credit", E7: the credit against the exact credit, of a contract at any pension age, by any rounding.
 -- Assumes nothing.
 use Rattle.std.specs.Prelude.{List, ◌≡◌, ℕ, ◌+◌, ◌*◌, ◌-◌, ◌≤◌, ◌<◌, eqb}
 use Rattle.common.specs.Choice.{pick}
@@ -10,34 +10,34 @@ use Rattle.credit.specs.Credit.{credit_in}
 use Rattle.distance.specs.Fraction.{Fraction}
 use Rattle.distance.specs.Exact.{exact_credit, exact_blend}
 
--- The comparison by multiplying out: x has a denominator above 0, and c is at most h half pence above and below it.
+-- E5: The comparison by multiplying out: x has a denominator above 0, and c is at most h half pence above and below it.
 pub record Within (c : ℕ) (x : Fraction) (h : ℕ) : Type 0 where
   pub positive : 0 < x.den
   pub above : 2 * c * x.den ≤ 2 * x.num + h * x.den
   pub below : 2 * x.num ≤ 2 * c * x.den + h * x.den
 
--- The bound for k runs, in half pence: 2k − 1 pence, and a half penny more with odd months.
+-- E7: The bound for k runs, in half pence: 2k − 1 pence, and a half penny more with odd months.
 abbrev pub half_pence : (odd k : ℕ) → ℕ
 half_pence odd k = 2 * (2 * k - 1) + pick (eqb odd 0) 0 1
 
--- What a monthly contract buys: the odd months of its pension age, the purchase in the only or lower table, and that in the upper, which
+-- C14: What a monthly contract buys: the odd months of its pension age, the purchase in the only or lower table, and that in the upper, which
 -- counts only with odd months.
 pub record Purchases : Type 0 where
   pub odd_months : ℕ
   pub lower : Purchase
   pub upper : Purchase
 
--- The credit in whole pence: the only table's, or with odd months the rounded blend of both tables'.
+-- C14: The credit in whole pence: the only table's, or with odd months the rounded blend of both tables'.
 abbrev pub credit_by : (round : ℕ → ℕ → ℕ) → Purchases → (marks : List ℕ) → ℕ
 credit_by round c marks = combine_by round c.odd_months (credit_in round c.lower marks) (credit_in round c.upper marks)
 
--- The exact credit: the same with nothing rounded.
+-- E4: The exact credit: the same with nothing rounded.
 abbrev pub exact_credit_by : Purchases → (marks : List ℕ) → Fraction
 exact_credit_by c marks =
     pick (eqb c.odd_months 0) (exact_credit c.lower marks)
     (exact_blend c.odd_months (exact_credit c.lower marks) (exact_credit c.upper marks))
 
--- What the theorems ask: odd months below 12, a term of at most the longest, falling rates, the same term, unit and units in both tables.
+-- R6, T2, T5: What the theorems ask: odd months below 12, a term of at most the longest, falling rates, the same term, unit and units in both tables.
 pub record SoundPurchases (c : Purchases) : Type 0 where
   pub odd_most : c.odd_months < months_in_year
   pub term_most : c.lower.term ≤ longest_term

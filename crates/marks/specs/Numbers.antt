@@ -1,10 +1,10 @@
--- Document 01, "Marks and status": the numbers of the statuses, 0 to 6.
+-- "Marks and status", M7: the numbers of the statuses, 0 to 6.
 -- Assumes nothing.
 use Rattle.std.specs.Prelude.{ℕ}
 use Rattle.marks.specs.declared.statuses.Status.{Status}
 use Rattle.marks.specs.declared.statuses.Status.TheVariants.{NoMarksYet, Paying, InGap, Complete, Ceased, Refunded, LumpSum}
 
--- of what a contract can be
+-- M7: of what a contract can be
 abbrev pub status_number : Status → ℕ
 status_number NoMarksYet = 0
 status_number Paying = 1

@@ -1,4 +1,4 @@
--- Document 01, "What each operation gives", Settle: what refuses marks, and where.
+-- "Settle", O9 and O10: what refuses marks, and where.
 -- Assumes nothing.
 use Rattle.std.specs.Prelude.{List, [], ◌∷◌, ◌++◌, ℕ, ◌*◌, ltb, eqb, length}
 use Rattle.common.specs.Choice.{pick}
@@ -6,7 +6,7 @@ use Rattle.common.specs.Calendar.{months_in_year}
 use Rattle.refusals.specs.Places.{RefusedAt, refusing}
 use Rattle.marks.specs.Counts.{last_or, final_gap}
 
--- the refusal of a mark m after the marks before it, 0 for none: 11 above 2; 12 for a 0 or 1 after a 2, for a 0 that stands first, and
+-- M1 to M4: the refusal of a mark m after the marks before it, 0 for none: 11 above 2; 12 for a 0 or 1 after a 2, for a 0 that stands first, and
 -- for a 1 after more missed months than leave the contract open
 unfoldable pub mark_refusal : (open_months : ℕ) (before : List ℕ) (m : ℕ) → ℕ
 mark_refusal open_months before m =
@@ -16,14 +16,14 @@ mark_refusal open_months before m =
     (pick (eqb m 1) (pick (ltb open_months (final_gap before)) 12 0)
     (pick (eqb (length before) 0) 12 0))))
 
--- the first bad one of the marks that follow those before them, with its index; 0 and 0 where none is bad
+-- O9, O10: the first bad one of the marks that follow those before them, with its index; 0 and 0 where none is bad
 unfoldable pub first_refusal : (open_months : ℕ) (before marks : List ℕ) → RefusedAt
 first_refusal open_months before [] = refusing 0 0
 first_refusal open_months before (m ∷ ms) =
     pick (eqb (mark_refusal open_months before m) 0) (first_refusal open_months (before ++ (m ∷ [])) ms)
     (refusing (mark_refusal open_months before m) (length before))
 
--- 10 for more marks than a term in years has months, before any is looked at; then the first bad mark
+-- O9: 10 for more marks than a term in years has months, before any is looked at; then the first bad mark
 unfoldable pub marks_refusal : (open_months term : ℕ) (marks : List ℕ) → RefusedAt
 marks_refusal open_months term ms =
     pick (ltb (months_in_year * term) (length ms)) (refusing 10 0) (first_refusal open_months [] ms)

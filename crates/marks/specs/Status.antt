@@ -1,4 +1,4 @@
--- Document 01, "Marks and status": the status of a contract, 0 to 6.
+-- "Marks and status", M8 to M14: the status of a contract, 0 to 6.
 -- Assumes nothing.
 use Rattle.std.specs.Prelude.{◌&&◌, List, ℕ, ◌*◌, ltb, leb, eqb, length}
 use Rattle.common.specs.Choice.{pick}
@@ -6,11 +6,11 @@ use Rattle.common.specs.Calendar.{months_in_year}
 use Rattle.scheme.specs.Scheme.{ceased_from}
 use Rattle.marks.specs.Counts.{last_or, are_all_paid, paid_through, final_gap}
 
--- a contract that has stopped is ceased or refunded, by b
+-- M12, M13: a contract that has stopped is ceased or refunded, by b
 unfoldable pub stopped_of : (b : ℕ) → ℕ
 stopped_of b = pick (leb ceased_from b) 4 5
 
--- the status under a term in years, 0 for a lump sum, of lawful marks
+-- M8 to M14: the status under a term in years, 0 for a lump sum, of lawful marks
 unfoldable pub status_of : (open_months term : ℕ) (marks : List ℕ) → ℕ
 status_of open_months term ms =
     pick (eqb term 0) 6

@@ -1,8 +1,8 @@
--- Document 01, "Terms of an election": pension a year in pence, which is never added to a contribution.
+-- "Terms of an election", T8: pension a year in pence, which is never added to a contribution.
 -- Assumes nothing.
 use Rattle.std.specs.Prelude.{ℕ}
 use Rattle.money.specs.declared.PensionPence.{PensionPence}
 
--- n pence of pension a year
+-- T8: n pence of pension a year
 abbrev pub pension : ℕ → PensionPence
 pension n = record { 0 = n }

@@ -1,4 +1,4 @@
--- What holds of every pay-off of request 1 of document 02, beside its numbers: what is priced, and what refuses in which order.
+-- "Paying off the rest", P2 to P7: what holds of every pay-off beside its numbers: what is priced, and what refuses in which order.
 -- Assumes nothing.
 use Rattle.std.specs.Prelude.{List, ◌⊎◌, ◌≡◌, ℕ, ◌+◌, ◌≤◌, ◌<◌}
 use Rattle.scheme.specs.Scheme.{pounds_in_pence}
@@ -7,7 +7,7 @@ use Rattle.terms.specs.Printed.{LacksLumpSum}
 use Rattle.settlement.specs.Settle.{settle_of}
 use Rattle.pay_off.specs.PayOff.{PayOffNumbers, least_increase, most_increase}
 
--- of a pay-off n of t for the marks, where it is priced
+-- P2, P7: of a pay-off n of t for the marks, where it is priced
 pub record PayOffPriced (t : Terms) (marks : List ℕ) (n : PayOffNumbers) : Type 0 where
   -- remaining and credit are the amount: nothing was cut off at 0
   pub whole : n.refusal ≡ 0 → n.remaining + (settle_of t marks).credit ≡ pounds_in_pence t.amount
@@ -18,15 +18,15 @@ pub record PayOffPriced (t : Terms) (marks : List ℕ) (n : PayOffNumbers) : Typ
   pub free : n.refusal ≡ 0 → n.cost ≡ 0 → n.remaining ≡ 0
   pub nothing_left : n.refusal ≡ 0 → n.remaining ≡ 0 → n.cost ≡ 0
 
--- a status that can be paid off: paying, in a gap, complete or ceased
+-- P4: a status that can be paid off: paying, in a gap, complete or ceased
 abbrev pub StatusPayable : (status : ℕ) → Type 0
 StatusPayable status = (1 ≤ status) × (status ≤ 4)
 
--- an increase that is taken
+-- P5: an increase that is taken
 abbrev pub IncreaseTaken : (increase : ℕ) → Type 0
 IncreaseTaken increase = (least_increase ≤ increase) × (increase ≤ most_increase)
 
--- what is refused, and with which number and place
+-- P4 to P6: what is refused, and with which number and place
 pub record PayOffRefusals (t : Terms) (marks : List ℕ) (age_now increase : ℕ) (n : PayOffNumbers) : Type 0 where
   -- what Settle refuses, as Settle does
   pub settle_first : ((settle_of t marks).refusal ≡ 0 → ⊥) → (n.refusal ≡ (settle_of t marks).refusal) × (n.place ≡ (settle_of t marks).place)

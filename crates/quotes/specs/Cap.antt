@@ -1,13 +1,13 @@
--- Document 01, "What each operation gives", Cap decision.
+-- "Cap decision", O7.
 -- Assumes nothing.
 use Rattle.std.specs.Prelude.{◌≡◌, ℕ, ◌+◌, ◌*◌, ◌-◌, ◌/◌, ◌%◌, ◌≤◌}
 use Rattle.scheme.specs.Scheme.{step_pounds, pounds_in_pence, step_pence, cap_pence}
 
--- the whole steps of £250 in what the existing pension leaves of £6,500, in pounds
+-- O7: the whole steps of £250 in what the existing pension leaves of £6,500, in pounds
 unfoldable pub cap_decision_of : (existing : ℕ) → ℕ
 cap_decision_of existing = (cap_pence - existing) / step_pence * step_pounds
 
--- r pounds is a multiple of £250; it fits under the cap where the existing pension does, and is 0 where that takes
+-- O7: r pounds is a multiple of £250; it fits under the cap where the existing pension does, and is 0 where that takes
 -- up the whole cap or more; no greater multiple fits
 pub record GreatestUnderCap (existing r : ℕ) : Type 0 where
   pub multiple : r % step_pounds ≡ 0

@@ -1,4 +1,4 @@
--- Document 01, "What each operation gives", Quote.
+-- "Quote", O4 to O6.
 -- Assumes nothing.
 use Rattle.std.specs.Prelude.{Result, Ok, Err, ℕ, ◌+◌, leb, eqb}
 use Rattle.common.specs.Choice.{pick, first_of}
@@ -10,7 +10,7 @@ use Rattle.election.specs.ContributionOf.{contribution_of}
 use Rattle.quotes.specs.declared.QuoteMade.{QuoteMade}
 use Rattle.quotes.specs.declared.Quoted.{Quoted}
 
--- what a quote gives, in document 01's numbers: the refusal (0 none), the contribution, the next number, and the last
+-- O4: what a quote gives, in numbers: the refusal (0 none), the contribution, the next number, and the last
 -- number of the register that is handed back
 pub record QuoteNumbers : Type 0 where
   pub refusal : ℕ
@@ -18,15 +18,15 @@ pub record QuoteNumbers : Type 0 where
   pub next : ℕ
   pub register : ℕ
 
--- the last number that a register gives out
+-- O5: the last number that a register gives out
 abbrev pub last_quote_number : ℕ
 last_quote_number = 999999
 
--- 1 to 8 as the terms are refused; then 9: no number is left
+-- O5: 1 to 8 as the terms are refused; then 9: no number is left
 unfoldable pub quote_refusal : Terms → (existing last : ℕ) → ℕ
 quote_refusal t existing last = first_of (refusal_of t existing) (pick (leb last_quote_number last) 9 0)
 
--- A refusal gives its number, zeros and the register unchanged; success the contribution and the last number plus 1,
+-- O6: A refusal gives its number, zeros and the register unchanged; success the contribution and the last number plus 1,
 -- which the register then holds.
 unfoldable pub quote_of : Terms → (existing last : ℕ) → QuoteNumbers
 quote_of t existing last =
@@ -34,7 +34,7 @@ quote_of t existing last =
     (record { refusal = 0; contribution = contribution_of t; next = last + 1; register = last + 1 })
     (record { refusal = quote_refusal t existing last; contribution = 0; next = 0; register = last })
 
--- document 01's numbers for each case of an answer, beside the register
+-- O2: the numbers for each case of an answer, beside the register
 abbrev pub quote_answer_numbers : Result QuoteMade Refusal → ℕ → QuoteNumbers
 quote_answer_numbers (Err r) register = record { refusal = refusal_number r; contribution = 0; next = 0; register = register }
 quote_answer_numbers (Ok q) register = record { refusal = 0; contribution = q.contribution.0; next = q.number; register = register }

@@ -1,10 +1,10 @@
--- The numbers of the refusals, 1 to 15 of document 01, 16 to 18 of document 02; 0 is none.
+-- "What each operation gives", O1 and O2: the numbers of the refusals, 1 to 18; 0 is none.
 -- Assumes nothing.
 use Rattle.std.specs.Prelude.{Bool, true, false, Result, Ok, Err, ℕ}
 use Rattle.refusals.specs.declared.Refusal.{Refusal}
 use Rattle.refusals.specs.declared.Refusal.TheVariants.{WrongOption, WrongPensionAge, WrongTerm, WrongPayer, NoRate, NoUpperRate, WrongAmount, AboveCap, NoNumberLeft, TooManyMarks, UnknownMark, UnlawfulMark, BadRecord, WrongLength, WrongShape, NothingToPayOff, WrongIncrease, OutOfRange}
 
--- of each rule that refuses
+-- O1: of each rule that refuses
 abbrev pub refusal_number : Refusal → ℕ
 refusal_number WrongOption = 1
 refusal_number WrongPensionAge = 2
@@ -25,7 +25,7 @@ refusal_number NothingToPayOff = 16
 refusal_number WrongIncrease = 17
 refusal_number OutOfRange = 18
 
--- whether an answer is a refusal
+-- O2: whether an answer is a refusal
 abbrev pub is_refused : {A E : Type 0} → Result A E → Bool
 is_refused (Ok x) = false
 is_refused (Err e) = true

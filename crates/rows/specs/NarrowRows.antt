@@ -1,4 +1,4 @@
--- Request 3 of document 02: the greatest monthly rate of all, and what it leads to, as figures in pence.
+-- "Narrow rates inside the lookup", N3: the greatest monthly rate of all, and what it leads to, as figures in pence.
 -- Assumes nothing.
 use Rattle.std.specs.Prelude.{List, [], ◌∷◌}
 use Rattle.rates.specs.Rates.{rate_of}
@@ -7,11 +7,11 @@ use Rattle.terms.specs.declared.Terms.{Terms}
 use Rattle.election.specs.ContributionOf.{contribution_of}
 use Rattle.rows.specs.Rows.{Row, ◌is◌, only}
 
--- the whole cap from age 63, with dependant's pension, over one year: the one term for which D65 has a rate at that age
+-- N3: the whole cap from age 63, with dependant's pension, over one year: the one term for which D65 has a rate at that age
 abbrev pub greatest : Terms
 greatest = record { age = 63; pnpa_years = 65; pnpa_months = 0; option = 2; payer = 1; term = 1; amount = 6500 }
 
--- the rate is 3,816 tenths of a pound; for twenty-six units that makes 99,216 tenths, more than 16 bits hold
+-- N3: the rate is 3,816 tenths of a pound; for twenty-six units that makes 99,216 tenths, more than 16 bits hold
 unfoldable pub narrow_rows : List Row
 narrow_rows =
     (only (rate_of 2 65 63 1) is only (tenths_in_pence 3816))

@@ -1,5 +1,5 @@
--- Request 1 of document 02: the figures of its text, and figures at which a misreading would show. A row holds what the definitions give
--- and what is stated.
+-- "Paying off the rest", P2 to P8: its figures, and figures at which a misreading would show. A row holds what the
+-- definitions give and what is stated.
 -- Assumes nothing.
 use Rattle.std.specs.Prelude.{List, [], ◌∷◌, ◌++◌, ℕ, ◌*◌}
 use Rattle.terms.specs.declared.Terms.{Terms}
@@ -8,7 +8,7 @@ use Rattle.pay_off.specs.Cost.{increased_by, cost_of}
 use Rattle.pay_off.specs.PayOff.{pay_off_of}
 use Rattle.rows.specs.Rows.{Row, ◌is◌, only, five_years, paid_for, missed_for}
 
--- £1,196.40 at 1.011; £3,940.00 and £3,730.00 at 5 odd months, in twelfths of a penny £3,852.50; and what £1,209.56 costs there, as with
+-- P8: £1,196.40 at 1.011; £3,940.00 and £3,730.00 at 5 odd months, in twelfths of a penny £3,852.50; and what £1,209.56 costs there, as with
 -- that rate at a whole pension age
 unfoldable pub step_rows : List Row
 step_rows =
@@ -18,7 +18,7 @@ step_rows =
     ∷ (only (cost_of 120956 385250 0 0) is only 1863932)
     ∷ []
 
--- not in the paper: £5.00 at 1.001 is half a penny above £5.00, and a penny at £625.00 costs two and a half pence, where the even penny
+-- P2, P3, in no paper: £5.00 at 1.001 is half a penny above £5.00, and a penny at £625.00 costs two and a half pence, where the even penny
 -- would be £5.00 and 2; £2,000.00 at the rate a month on from £250.01 towards £250.00 is a penny dearer where that rate is rounded first
 unfoldable pub half_rows : List Row
 half_rows =
@@ -27,17 +27,17 @@ half_rows =
     ∷ (only (cost_of 200000 25001 25000 1) is only 200007)
     ∷ []
 
--- the numbers of a pay-off: refusal, place, remaining, increased, cost
+-- P1: the numbers of a pay-off: refusal, place, remaining, increased, cost
 abbrev pub paid_off : Terms → List ℕ → (age_now increase : ℕ) → List ℕ
 paid_off t marks age_now increase =
     let n = pay_off_of t marks age_now increase in
     n.refusal ∷ n.place ∷ n.remaining ∷ n.increased ∷ n.cost ∷ []
 
--- a personal pension at 66 years 5 months: document 001's contract at this scheme's rates
+-- P3: a personal pension at 66 years 5 months: document 001's contract at this scheme's rates
 abbrev pub four_years : Terms
 four_years = record { age = 60; pnpa_years = 66; pnpa_months = 5; option = 1; payer = 1; term = 4; amount = 1500 }
 
--- £1,000 over 5 years: 18 paid months, at 1.250 also, where half a penny goes up though that of the credit went down; the gap, ceased,
+-- P2, P3, P7: £1,000 over 5 years: 18 paid months, at 1.250 also, where half a penny goes up though that of the credit went down; the gap, ceased,
 -- complete; then the other contract
 unfoldable pub contract_rows : List Row
 contract_rows =
@@ -49,7 +49,7 @@ contract_rows =
     ∷ (paid_off four_years (paid_for 9) 61 1011 is (0 ∷ 0 ∷ 119083 ∷ 120393 ∷ 1829974 ∷ []))
     ∷ []
 
--- refusals: a mark that Settle refuses, no marks, refunded, each at an increase and an age that would be refused too; then at the
+-- P4 to P6: refusals: a mark that Settle refuses, no marks, refunded, each at an increase and an age that would be refused too; then at the
 -- increases next to those taken, and at the age
 unfoldable pub refused_rows : List Row
 refused_rows =
@@ -61,6 +61,6 @@ refused_rows =
     ∷ (paid_off five_years (paid_for 60) 65 9999 is (5 ∷ 0 ∷ 0 ∷ 0 ∷ 0 ∷ []))
     ∷ []
 
--- all of them
+-- P8: all of them
 unfoldable pub pay_off_rows : List Row
 pay_off_rows = step_rows ++ (half_rows ++ (contract_rows ++ refused_rows))

@@ -1,4 +1,4 @@
--- Request 4 of document 02: the figures of its text, the edges of the search, and figures at which a misreading would show. A row holds
+-- "The reduction buy-out limit", L13: its figures, the edges of the search, and figures at which a misreading would show. A row holds
 -- what the definitions give and what is stated.
 -- Assumes nothing.
 use Rattle.std.specs.Prelude.{List, [], ◌∷◌, ◌++◌, map, ℕ, ◌*◌, ◌-◌}
@@ -8,7 +8,7 @@ use Rattle.reduction.specs.Potential.{potential_of}
 use Rattle.reduction.specs.Answer.{ReductionNumbers, reduction_limit_of}
 use Rattle.rows.specs.Rows.{Row, ◌is◌, only}
 
--- a member: pension age, age and pay, and a factor for each candidate
+-- L13: a member: pension age, age and pay, and a factor for each candidate
 pub record Member : Type 0 where
   pub npa : ℕ
   pub age : ℕ
@@ -20,7 +20,7 @@ pub record Member : Type 0 where
 abbrev pub member_of : (npa age pay erf1 erf2 erf3 : ℕ) → Member
 member_of npa age pay erf1 erf2 erf3 = record { npa = npa; age = age; pay = pay; erf1 = erf1; erf2 = erf2; erf3 = erf3 }
 
--- what a member is answered, with so much existing pension and under a limit
+-- L13: what a member is answered, with so much existing pension and under a limit
 abbrev pub numbers_for : Member → (existing limit : ℕ) → ReductionNumbers
 numbers_for m existing limit =
     reduction_limit_of (record {
@@ -32,13 +32,13 @@ numbers_for m existing limit =
       limit = pension limit;
     })
 
--- the same as a list: refusal, age, three B
+-- L13: the same as a list: refusal, age, three B
 abbrev pub limited : Member → (existing limit : ℕ) → List ℕ
 limited m existing limit =
     let n = numbers_for m existing limit in
     n.refusal ∷ n.age ∷ n.first ∷ n.second ∷ n.third ∷ []
 
--- document 003's members of the examples B and C. B has one factor there; its second candidate has here that of C for a year before the
+-- L13: document 003's members of the examples B and C. B has one factor there; its second candidate has here that of C for a year before the
 -- pension age, and its third, which is the pension age, 1,000
 abbrev pub example_b : Member
 example_b = member_of 67 50 30000 896 946 1000
@@ -46,22 +46,22 @@ example_b = member_of 67 50 30000 896 946 1000
 abbrev pub example_c : Member
 example_c = member_of 68 35 70000 850 896 946
 
--- the two examples: existing pension of £4,000 and £2,000, and a limit of £6,924
+-- L13: the two examples: existing pension of £4,000 and £2,000, and a limit of £6,924
 unfoldable pub example_rows : List Row
 example_rows =
     (limited example_b 400000 692400 is (0 ∷ 65 ∷ 108353 ∷ 0 ∷ 0 ∷ []))
     ∷ (limited example_c 200000 692400 is (0 ∷ 67 ∷ 911797 ∷ 663051 ∷ 360713 ∷ []))
     ∷ []
 
--- the member of example B with a pension age of 66, and a factor of 1,000 for the second candidate, which is that age
+-- L13: the member of example B with a pension age of 66, and a factor of 1,000 for the second candidate, which is that age
 abbrev pub until66 : Member
 until66 = member_of 66 50 30000 896 1000 1000
 
--- the member of example C with factors of 1: nothing is to be bought out, and every B is 0
+-- L13: the member of example C with factors of 1: nothing is to be bought out, and every B is 0
 abbrev pub unreduced : Member
 unreduced = member_of 68 35 70000 1000 1000 1000
 
--- no existing pension, with a limit of 0 and one above B; B = C, where the next candidate is tried, and a limit that is a penny more; a limit
+-- L13: no existing pension, with a limit of 0 and one above B; B = C, where the next candidate is tried, and a limit that is a penny more; a limit
 -- below existing pension; the second candidate at the pension age, at B = C and with a penny more; all three fail; C is below zero
 unfoldable pub search_rows : List Row
 search_rows =
@@ -76,15 +76,15 @@ search_rows =
     ∷ (limited unreduced 1 0 is (0 ∷ 0 ∷ 0 ∷ 0 ∷ 0 ∷ []))
     ∷ []
 
--- a year before the first candidate, with factors of 0
+-- L13: a year before the first candidate, with factors of 0
 abbrev pub last_year : ℕ → Member
 last_year pay = member_of 66 64 pay 0 0 0
 
--- the most years at the most pay, with factors of 0
+-- L13: the most years at the most pay, with factors of 0
 abbrev pub longest_service : Member
 longest_service = member_of 70 24 200000 0 0 0
 
--- the power of 0, 1, 4, 23 and 45 years: that of 4 rounds up, that of 23 has an exact half
+-- L13: the power of 0, 1, 4, 23 and 45 years: that of 4 rounds up, that of 23 has an exact half
 unfoldable pub power_rows : List Row
 power_rows =
     ((power_of 0 ∷ power_of 1 ∷ power_of 4 ∷ power_of 23 ∷ power_of 45 ∷ [])
@@ -92,7 +92,7 @@ power_rows =
     ∷ (only (power_of 22 * 1015) is only 1408377155500)
     ∷ []
 
--- B at an exact half, 304.5 pence, which the even penny would take down; the greatest B of all, a penny less with the power rounded down;
+-- L13: B at an exact half, 304.5 pence, which the even penny would take down; the greatest B of all, a penny less with the power rounded down;
 -- and its product without the hundred, which 64 bits just hold
 unfoldable pub potential_rows : List Row
 potential_rows =
@@ -102,11 +102,11 @@ potential_rows =
     ∷ (only (45 * 200000 * power_of 45 * (1000 - 0)) is only 17587917135000000000)
     ∷ []
 
--- the refusal that a member gets
+-- L13: the refusal that a member gets
 abbrev pub refused_for : Member → (existing limit : ℕ) → ℕ
 refused_for m existing limit = (numbers_for m existing limit).refusal
 
--- the numbers on either side of each bound, and those within: pension age, age, pay, each factor, existing pension, limit
+-- L13: the numbers on either side of each bound, and those within: pension age, age, pay, each factor, existing pension, limit
 unfoldable pub out_of_range_rows : List Row
 out_of_range_rows =
     (map (λ (npa : ℕ). refused_for (member_of npa 50 30000 896 946 1000) 400000 692400) (65 ∷ 66 ∷ 70 ∷ 71 ∷ []) is (18 ∷ 0 ∷ 0 ∷ 18 ∷ []))
@@ -120,6 +120,6 @@ out_of_range_rows =
     ∷ (limited (member_of 65 50 30000 896 946 1000) 400000 692400 is (18 ∷ 0 ∷ 0 ∷ 0 ∷ 0 ∷ []))
     ∷ []
 
--- all of them
+-- L13: all of them
 unfoldable pub reduction_rows : List Row
 reduction_rows = example_rows ++ (search_rows ++ (power_rows ++ (potential_rows ++ out_of_range_rows)))

@@ -1,4 +1,4 @@
--- Document 01, "What each operation gives", Schedule.
+-- "Schedule", O16 to O19.
 -- Assumes nothing.
 use Rattle.std.specs.Prelude.{Result, List, ◌++◌, ℕ, suc, ltb, eqb, length, take, drop}
 use Rattle.common.specs.Choice.{pick}
@@ -8,25 +8,25 @@ use Rattle.settlement.specs.Settle.{settle_of}
 use Rattle.refusals.specs.declared.Refused.{Refused}
 use Rattle.refusals.specs.Places.{refused_in}
 
--- an entry is Settle's credit for the marks up to and with its own
+-- O16: an entry is Settle's credit for the marks up to and with its own
 unfoldable pub entry_of : Terms → List ℕ → ℕ → ℕ
 entry_of t marks i = (settle_of t (take (suc i) marks)).credit
 
--- an entry for each mark; later entries keep their contents
+-- O16: an entry for each mark; later entries keep their contents
 unfoldable pub filled_of : Terms → List ℕ → List ℕ → List ℕ
 filled_of t marks list = tabulate (entry_of t marks) 0 (length marks) ++ drop (length marks) list
 
--- the answer, and what the lent list then holds
+-- O17: the answer, and what the lent list then holds
 pub record ScheduleNumbers : Type 0 where
   pub refusal : ℕ
   pub place : ℕ
   pub list : List ℕ
 
--- document 01's numbers of an answer, beside the list
+-- O17: the numbers of an answer, beside the list
 abbrev pub numbers_of_schedule : Result Unit Refused → List ℕ → ScheduleNumbers
 numbers_of_schedule r list = record { refusal = (refused_in r).refusal; place = (refused_in r).place; list = list }
 
--- Settle's refusal with its place, then 14 for a list that is shorter than the marks; neither writes anything
+-- O18, O19: Settle's refusal with its place, then 14 for a list that is shorter than the marks; neither writes anything
 unfoldable pub schedule_of : Terms → List ℕ → List ℕ → ScheduleNumbers
 schedule_of t marks list =
     pick (eqb (settle_of t marks).refusal 0)

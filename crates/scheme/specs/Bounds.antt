@@ -1,20 +1,20 @@
--- The largest numbers that the scheme's tables, cap and rules lead to, and the last refusal numbers.
+-- "What each operation gives", O3: the largest numbers that the scheme's tables, cap and rules lead to, and the last refusal numbers.
 -- Assumes nothing.
 use Rattle.std.specs.Prelude.{ℕ, ◌*◌, ◌-◌, ◌/◌, max}
 use Rattle.scheme.specs.Scheme.{step_pounds, cap_pounds, ceased_from}
 
--- the largest rates for a step, in pence: £381.60 a month, and £4,560 as a lump sum
+-- R8: the largest rates for a step, in pence: £381.60 a month, and £4,560 as a lump sum
 abbrev pub most_monthly_rate : ℕ
 most_monthly_rate = 38160
 
 abbrev pub most_lump_sum_rate : ℕ
 most_lump_sum_rate = 456000
 
--- the steps that the cap allows
+-- O3: the steps that the cap allows
 abbrev pub most_steps : ℕ
 most_steps = cap_pounds / step_pounds
 
--- the largest contributions: £9,921.60 a month, £118,560 as a lump sum
+-- O3: the largest contributions: £9,921.60 a month, £118,560 as a lump sum
 abbrev pub most_monthly_contribution : ℕ
 most_monthly_contribution = most_steps * most_monthly_rate
 
@@ -24,11 +24,11 @@ most_lump_sum = most_steps * most_lump_sum_rate
 abbrev pub most_contribution : ℕ
 most_contribution = max most_monthly_contribution most_lump_sum
 
--- the largest refund, £118,560: of the months before a contract has ceased, or of one lump sum
+-- O3: the largest refund, £118,560: of the months before a contract has ceased, or of one lump sum
 abbrev pub most_refund : ℕ
 most_refund = max ((ceased_from - 1) * most_monthly_contribution) most_lump_sum
 
--- the last number that refuses terms, a quote and a settlement
+-- O5, O9: the last number that refuses terms, a quote and a settlement
 abbrev pub last_terms_refusal : ℕ
 last_terms_refusal = 8
 

@@ -1,11 +1,11 @@
--- What bounds the numbers of a settlement.
+-- "What each operation gives", O3: what bounds the numbers of a settlement.
 -- Assumes nothing.
 use Rattle.std.specs.Prelude.{◌-◌, ◌≤◌}
 use Rattle.scheme.specs.Scheme.{cap_pence, most_marks}
 use Rattle.scheme.specs.Bounds.{most_contribution, most_refund, last_settle_refusal}
 use Rattle.settlement.specs.Settle.{SettleNumbers}
 
--- no number of a settlement is larger
+-- O3: no number of a settlement is larger
 pub record SettleBounds (n : SettleNumbers) : Type 0 where
   pub refusal_most : n.refusal ≤ last_settle_refusal
   -- the last index of the marks of the longest term

@@ -1,4 +1,4 @@
--- Demand 3 of document 01: how far the credit of a settlement lies from the exact credit.
+-- "The exact credit", E7, demand 3: how far the credit of a settlement lies from the exact credit.
 -- Assumes nothing.
 use Rattle.std.specs.Prelude.{List, ◌≡◌, ℕ, ◌≤◌}
 use Rattle.scheme.specs.Scheme.{longest_term, open_months}
@@ -9,7 +9,7 @@ use Rattle.distance.specs.Distance.{Within, half_pence}
 use Rattle.settlement.specs.Credit.{exact_credit_of}
 use Rattle.settlement.specs.Settle.{SettleNumbers}
 
--- For terms and marks that are not refused, with a term of 1 to 20 years, k at least 1 and no refund: the credit for the whole list
+-- E7: For terms and marks that are not refused, with a term of 1 to 20 years, k at least 1 and no refund: the credit for the whole list
 -- lies within 2k − 1 pence of the exact credit, up or down, and half a penny more with odd months. `Within` compares in half pence.
 abbrev pub Demand3 : Terms → (marks : List ℕ) → SettleNumbers → Type 0
 Demand3 t marks n =

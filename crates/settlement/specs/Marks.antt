@@ -1,4 +1,4 @@
--- Document 01, "What each operation gives", Settle: what refuses marks, said of lawful marks and of the first bad one.
+-- "Settle", O9 and O10: what refuses marks, said of lawful marks and of the first bad one.
 -- Assumes nothing.
 use Rattle.std.specs.Prelude.{List, ◌≡◌, ℕ, ◌*◌, ◌≤◌, ◌<◌, length}
 use Rattle.common.specs.Calendar.{months_in_year}
@@ -8,7 +8,7 @@ use Rattle.terms.specs.Rules.{refusal_of}
 use Rattle.marks.specs.Lawful.{LawfulFor, FirstBad}
 use Rattle.settlement.specs.Settle.{SettleNumbers}
 
--- the numbers n answer the marks as these rules say
+-- O9, O10: the numbers n answer the marks as these rules say
 pub record MarksAnswered (t : Terms) (marks : List ℕ) (n : SettleNumbers) : Type 0 where
   -- what is not refused has lawful marks, no more than the term has months
   pub lawful : n.refusal ≡ 0 → LawfulFor open_months t.term marks

@@ -1,4 +1,4 @@
--- Document 01, "What each operation gives", Settle.
+-- "Settle", O8 to O10.
 -- Assumes nothing.
 use Rattle.std.specs.Prelude.{Result, Ok, Err, List, ℕ, ◌*◌, eqb}
 use Rattle.common.specs.Choice.{pick}
@@ -14,7 +14,7 @@ use Rattle.examination.specs.Refusal.{settle_refusal}
 use Rattle.settlement.specs.declared.Settlement.{Settlement}
 use Rattle.settlement.specs.Credit.{credit_of}
 
--- what a settlement gives, in document 01's numbers; refusal 0 is none
+-- O8: what a settlement gives, in numbers; refusal 0 is none
 pub record SettleNumbers : Type 0 where
   pub refusal : ℕ
   pub place : ℕ
@@ -23,20 +23,20 @@ pub record SettleNumbers : Type 0 where
   pub credit : ℕ
   pub refund : ℕ
 
--- nothing when refunded; a lump sum is credited in full; else what the paid runs earned
+-- M13, M14: nothing when refunded; a lump sum is credited in full; else what the paid runs earned
 unfoldable pub credit_at_status : Terms → (marks : List ℕ) (status : ℕ) → ℕ
 credit_at_status t marks status = pick (eqb status 5) 0 (pick (eqb status 6) (pounds_in_pence t.amount) (credit_of t marks))
 
--- the contribution for each paid month when refunded, else nothing
+-- M13: the contribution for each paid month when refunded, else nothing
 unfoldable pub refund_at_status : Terms → (marks : List ℕ) (status : ℕ) → ℕ
 refund_at_status t marks status = pick (eqb status 5) (contribution_of t * paid_months marks) 0
 
--- a refusal, all other fields 0
+-- O1: a refusal, all other fields 0
 abbrev pub refused_settlement : (refusal place : ℕ) → SettleNumbers
 refused_settlement n place =
     record { refusal = n; place = place; contribution = 0; status = 0; credit = 0; refund = 0 }
 
--- terms and marks that are not refused
+-- O8: terms and marks that are not refused
 abbrev pub settled_numbers : Terms → (marks : List ℕ) → SettleNumbers
 settled_numbers t marks =
     let status = status_of open_months t.term marks in
@@ -49,13 +49,13 @@ settled_numbers t marks =
       refund = refund_at_status t marks status;
     }
 
--- Settle: the first refusal and its place, or the settlement
+-- O8 to O10: Settle: the first refusal and its place, or the settlement
 unfoldable pub settle_of : Terms → (marks : List ℕ) → SettleNumbers
 settle_of t marks =
     pick (eqb (settle_refusal t marks).refusal 0) (settled_numbers t marks)
     (refused_settlement (settle_refusal t marks).refusal (settle_refusal t marks).place)
 
--- document 01's numbers for each case of an answer
+-- O2: the numbers for each case of an answer
 abbrev pub numbers_of_settlement : Result Settlement Refused → SettleNumbers
 numbers_of_settlement (Err e) = refused_settlement (refusal_number e.refusal) e.place
 numbers_of_settlement (Ok s) =

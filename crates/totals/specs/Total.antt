@@ -1,4 +1,4 @@
--- Document 01, "What each operation gives", Member total.
+-- "Member total", O20 and O21.
 -- Assumes nothing.
 use Rattle.std.specs.Prelude.{Result, Ok, Err, Bool, false, ◌||◌, List, [], ◌∷◌, ℕ, suc, ◌+◌, ltb, length}
 use Rattle.common.specs.Choice.{pick}
@@ -9,46 +9,46 @@ use Rattle.money.specs.declared.PensionPence.{PensionPence}
 use Rattle.records.specs.declared.Contract.{Contract}
 use Rattle.records.specs.Record.{settled_record, bad_record}
 
--- the most records of a total
+-- O21: the most records of a total
 abbrev pub most_records : ℕ
 most_records = 64
 
--- the credits of the records added up, an empty list giving 0
+-- O20: the credits of the records added up, an empty list giving 0
 unfoldable pub credit_sum : List Contract → ℕ
 credit_sum [] = 0
 credit_sum (c ∷ cs) = (settled_record c).credit + credit_sum cs
 
--- whether any of the records is bad
+-- O21: whether any of the records is bad
 unfoldable pub any_bad : List Contract → Bool
 any_bad [] = false
 any_bad (c ∷ cs) = bad_record c || any_bad cs
 
--- how many records stand before the first bad one
+-- O21: how many records stand before the first bad one
 unfoldable pub first_bad_record : List Contract → ℕ
 first_bad_record [] = 0
 first_bad_record (c ∷ cs) = pick (bad_record c) 0 (suc (first_bad_record cs))
 
--- the refusal of a total, 0 for success, the index of the first bad record, and the credit
+-- O20, O21: the refusal of a total, 0 for success, the index of the first bad record, and the credit
 pub record TotalNumbers : Type 0 where
   pub refusal : ℕ
   pub index : ℕ
   pub credit : PensionPence
 
--- a refusal with an index; the total is then 0
+-- O21: a refusal with an index; the total is then 0
 abbrev pub refused_total : ℕ → ℕ → TotalNumbers
 refused_total n i = record { refusal = n; index = i; credit = pension 0 }
 
--- success; the index is then 0
+-- O20: success; the index is then 0
 abbrev pub totalling : ℕ → TotalNumbers
 totalling sum = record { refusal = 0; index = 0; credit = pension sum }
 
--- a longer list of records is refused unseen; then the first bad record is named; else the credits are added up
+-- O20, O21: a longer list of records is refused unseen; then the first bad record is named; else the credits are added up
 unfoldable pub member_total_of : List Contract → TotalNumbers
 member_total_of cs =
     pick (ltb most_records (length cs)) (refused_total 14 0)
     (pick (any_bad cs) (refused_total 13 (first_bad_record cs)) (totalling (credit_sum cs)))
 
--- document 01's numbers for each case of an answer
+-- O2: the numbers for each case of an answer
 abbrev pub numbers_of_total : Result PensionPence Refused → TotalNumbers
 numbers_of_total (Err e) = refused_total (refusal_number e.refusal) e.place
 numbers_of_total (Ok credit) = record { refusal = 0; index = 0; credit = credit }
