@@ -1,4 +1,4 @@
--- Demand 3 of document 01: the credit of a contract lies within 2k − 1 pence of the exact credit, half a penny more with odd months.
+-- E7, demand 3: the credit of a contract lies within 2k − 1 pence of the exact credit, half a penny more with odd months.
 -- Assumes nothing.
 use mathlib.Core.Bool.{Bool, true}
 use mathlib.Core.List.{List, ◌∷◌}

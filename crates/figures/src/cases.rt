@@ -39,7 +39,7 @@ pub static DOCUMENT_001: [Asked; 8] = [
     Settle(On(60, 66, 5, 1, 1, 4, 1500), &[(1, 12), (2, 1)]),
 ];
 
-// The rates that document 01's figures go by.
+// The rates that the figures G1 to G5 go by.
 pub static DOCUMENT_01: [Asked; 10] = [
     Rate(2, 67, 50, 1),
     Rate(2, 67, 50, 9),
@@ -177,7 +177,7 @@ pub static EDGES: [Asked; 114] = [
     Schedule(On(50, 65, 0, 3, 1, 5, 1000), &[(1, 1)], 5), // 1
 ];
 
-// Contracts paid off, by request 1 of document 02. A remark that starts with a number names the refusal.
+// Contracts paid off, P1 to P7. A remark that starts with a number names the refusal.
 pub static PAY_OFFS: [Asked; 34] = [
     PayOff(On(50, 65, 0, 2, 1, 5, 1000), &[(1, 18)], 51, 1011), // eighteen paid
     PayOff(
@@ -230,7 +230,7 @@ pub static PAY_OFFS: [Asked; 34] = [
     ), // 12 at 13, as Settle refuses
 ];
 
-// Exact halves, and quotients beside them, by request 2 of document 02: a half goes to the even number, but that of a pay-off goes up.
+// Exact halves, and quotients beside them, H1 and H2: a half goes to the even number, but that of a pay-off goes up.
 pub static HALVES: [Asked; 22] = [
     Nearest(1, 2),
     Nearest(3, 2),
@@ -263,7 +263,7 @@ pub static DOCUMENT_003: [Asked; 3] = [
     ReductionLimit(68, 35, 70000, [850, 896, 946], 200000, 692400), // example C
 ];
 
-// The reduction limit by request 4 of document 02: the search at its edges, exact halves of B, the greatest figures.
+// The reduction limit, L1 to L10: the search at its edges, exact halves of B, the greatest figures.
 pub static SEARCHES: [Asked; 24] = [
     ReductionLimit(67, 50, 30000, [896, 946, 1000], 0, 0), // no existing pension: the limit decides nothing
     ReductionLimit(67, 50, 30000, [896, 946, 1000], 0, 100000000),

@@ -1,4 +1,4 @@
--- Document 02, request 3: every monthly rate is ten times a number that 16 bits hold. The test over all the tables, `tables_pass` of
+-- N1: every monthly rate is ten times a number that 16 bits hold. The test over all the tables, `tables_pass` of
 -- `rates`, has both rules, and its laws carry them to the rate for each age and term.
 -- Assumes nothing.
 use mathlib.Core.Path.{◌≡◌}

@@ -5,7 +5,7 @@ ghost use Rattle.marks.specs.Numbers.{status_number};
 
 use std::fmt;
 
-// The papers' statuses, in the order of their numbers, 0 to 6.
+// The statuses of the rules M8 to M14, in the order of their numbers, 0 to 6.
 #[derive(Clone, Copy, Debug, PartialEq, Eq)]
 pub enum Status {
     NoMarksYet,
@@ -18,7 +18,7 @@ pub enum Status {
 }
 
 impl Status {
-    // The papers' number.
+    // Its number.
     pub fn number(self) -> u32
         ensures { result ≡ status_number self }
     {

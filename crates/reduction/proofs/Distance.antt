@@ -1,4 +1,4 @@
--- B lies within a penny of its exact value, so within the 2 pence of document 02; and its product fits 64 bits once a hundred is cancelled.
+-- B lies within a penny of its exact value, so within the 2 pence of L4; and its product fits 64 bits once a hundred is cancelled.
 -- Assumes nothing.
 use mathlib.Core.Path.{◌≡◌, ap, sym, ◌∙◌}
 use Prim.Native.Nat.{ℕ, ◌+◌, ◌*◌, ◌-◌, ◌^◌, ◌≤◌, ◌<◌}

@@ -1,5 +1,5 @@
 -- Up to 45 years the power is at most that of 45 and lies within 2 billionths of the exact one: a test computed over all those years,
--- carried to each. So it lies within the 32 of document 02.
+-- carried to each. So it lies within the 32 of L5.
 -- Assumes nothing.
 use mathlib.Core.List.{List, [], ◌∷◌}
 use mathlib.Core.Path.{◌≡◌}

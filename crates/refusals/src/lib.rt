@@ -1,4 +1,4 @@
-// What the operations refuse, by the papers' numbers.
+// What the operations refuse, by the numbers of O1.
 #![tactic(auto)]
 
 ghost use Rattle.std.specs.Prelude.{◌≡◌};
@@ -38,7 +38,7 @@ pub enum Refusal {
 }
 
 impl Refusal {
-    // The papers' number.
+    // Its number.
     pub fn number(self) -> u32
         ensures { result ≡ refusal_number self }
     {

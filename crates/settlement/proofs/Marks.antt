@@ -1,4 +1,4 @@
--- The numbers of a settlement refuse marks as document 01 says it.
+-- The numbers of a settlement refuse marks as M1 to M4 and O9 say it.
 -- Assumes nothing.
 use mathlib.Core.List.{List}
 use mathlib.Core.Path.{◌≡◌, sym, ap, subst, ◌∙◌}

@@ -93,7 +93,7 @@ pub fn settle(t: Terms, marks: &[u8]) -> Result<Settlement, Refused>
     })
 }
 
-// A settlement as document 01's six numbers, as a host in C and the listing take them: refusal and status are numbers, and refusal 0 is none.
+// A settlement as six numbers, as a host in C and the listing take them: refusal and status are numbers, and refusal 0 is none.
 #[derive(Clone, Copy, Debug, PartialEq, Eq)]
 pub struct SixNumbers {
     pub refusal: u64,

@@ -1,7 +1,7 @@
 //! The rules of Additional Pension and of the reduction limit, written a second time in plain Rust.
 //!
 //! This is what the proved part is compared with, so it shares nothing with it: not the code, not the tables, not the way of
-//! working. Refusals and statuses are the paper's numbers, money is in pence, and a refusal leaves every other field 0.
+//! working. Refusals and statuses are numbers, money is in pence, and a refusal leaves every other field 0.
 
 pub mod case_file;
 pub mod credit;
