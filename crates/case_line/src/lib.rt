@@ -94,7 +94,7 @@ fn wrong_shape() -> [u8; LISTED_BYTES]
     listed(0, SixNumbers::from(Err(Refusal::WrongShape.into())))
 }
 
-// The listing's line for a line of the right shape: 29 to 285 bytes, eight fields that say numbers, and digits behind them.
+// The listing's line for a line of the right shape: 29 to 285 bytes, eight fields that say numbers, and digits after them.
 #[tactic(auto, using(crate::proofs::Shapes::too_short, crate::proofs::Shapes::too_long, crate::proofs::Shapes::no_fields, crate::proofs::Shapes::whole_line, crate::proofs::Shapes::settled_line_lem))]
 fn settle_shape(line: &[u8]) -> Option<[u8; LISTED_BYTES]>
     ensures { row_or_wrong_shape result ≡ line_of line.now }

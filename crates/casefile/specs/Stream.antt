@@ -43,7 +43,7 @@ abbrev pub numbers_of_chunk : ChunkSettled → List ℕ → ChunkNumbers
 numbers_of_chunk r out = record { taken = r.taken; wrote = r.wrote; kept = bytes_of r.after; out = out }
 
 -- F8: where n bytes of a chunk are taken and p was open before it: the lines that end among them stand at the start of `out`, with all
--- behind them as it was
+-- after them as it was
 abbrev pub taken_of : List ℕ → List ℕ → List ℕ → ℕ → ChunkNumbers
 taken_of p chunk out n =
     record {

@@ -9,7 +9,7 @@ use case_line::{LISTED_BYTES, settle_line};
 const KEPT_BYTES: usize = 286;
 
 // The bytes since the last line end. As many as the array has stand for any more: both are too long. Fixed memory: an array and how
-// many of its bytes are the line's stand for a Vec, which takes from a heap. What stands behind them is left over, so no caller sees
+// many of its bytes are the line's stand for a Vec, which takes from a heap. What stands after them is left over, so no caller sees
 // the fields.
 #[derive(Clone, Copy)]
 pub struct OpenLine {
@@ -39,7 +39,7 @@ impl OpenLine {
         &self.bytes[..self.len]
     }
 
-    // Puts the part behind what is open, as far as the array goes.
+    // Puts the part after what is open, as far as the array goes.
     pub(crate) fn keep(&mut self, part: &[u8])
         ensures { bytes_of self.new ≡ take kept_bytes (bytes_of self.old ++ part.now) }
     {

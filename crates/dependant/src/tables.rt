@@ -1,5 +1,5 @@
 // Tables D65 to D68 as the code holds them, monthly rates for pension with dependant's pension, option 2, in tenths of a pound per £250 of
-// pension a year: for each age from 16 to 66, which is named behind them, the rates of the terms from 1 to 20, 0 where nothing is printed.
+// pension a year: for each age from 16 to 66, which is named after them, the rates of the terms from 1 to 20, 0 where nothing is printed.
 
 pub const D65: [u16; 1020] = [
     1118, 573, 391, 300, 246, 210, 184, 165, 150, 138, 129, 121, 114, 108, 103, 99, 95, 92, 89, 86, // 16

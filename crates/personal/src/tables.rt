@@ -1,5 +1,5 @@
 // Tables P65 to P68 as the code holds them, monthly rates for personal pension, option 1, in tenths of a pound per £250 of pension a
-// year: for each age from 16 to 66, which is named behind them, the rates of the terms from 1 to 20, 0 where nothing is printed.
+// year: for each age from 16 to 66, which is named after them, the rates of the terms from 1 to 20, 0 where nothing is printed.
 
 pub const P65: [u16; 1020] = [
     1038, 531, 363, 279, 229, 195, 171, 154, 140, 128, 119, 112, 106, 100, 96, 92, 89, 85, 83, 80, // 16

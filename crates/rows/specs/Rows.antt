@@ -12,6 +12,7 @@ use Rattle.distance.specs.Fraction.{Fraction}
 use Rattle.settlement.specs.Credit.{exact_credit_of}
 use Rattle.settlement.specs.Settle.{settle_of}
 
+-- G1 to G4: what a figure is by the definitions, and what it is stated to be
 pub record Row : Type 0 where
   pub found : List ℕ
   pub stated : List ℕ
