@@ -2,13 +2,21 @@
  * Additional Pension of the HSC Pension Scheme 2015: quoting an election, settling a contract and paying off its rest; and, by
  * the guidance of the NHS Pension Scheme 2015, the limit on buying out the reduction of an early pension.
  *
- * Link with libadditional_pension.a (x86-64). The four functions are proved to keep their rules for every number that they are given. They
- * allocate nothing, keep nothing between calls and end for every input; calls from several threads do not disturb each other.
+ * Link with libadditional_pension.a, which is for x86-64 (System V calling convention, instructions of level x86-64-v2). Its
+ * functions are proved to keep their rules for every number that they are given. They allocate nothing, keep nothing between
+ * calls and end for every input; calls from several threads do not disturb each other. A call needs at most 2,048 bytes of the
+ * stack, its arguments included: that is measured (hosts/c/stack.c) and not proved.
  *
- * What a caller owes. Of the numbers, nothing: every number has an answer, and what the scheme does not allow is refused. Of
- * the memory, what every C function is owed: a pointer stands for as many bytes as the length beside it says, nothing else
- * writes them during the call, and the pieces lent to one call do not overlap. A piece needs no alignment. A pointer is not
- * null, also where its length is 0.
+ * What a caller owes of the numbers: that each fits the type of its parameter before the call. C makes it fit without a word,
+ * and the call never sees what it was: from long age = 4294967346 it gets 50, which is priced, and from -1 it gets 4294967295.
+ * A mark of 257 becomes 1, a paid month. So compare a number that may be negative or too large with 0 and UINT32_MAX (or
+ * UINT64_MAX, UINT8_MAX), in the type in which it was read or computed, before it is cast; hosts/c/example.c does. The compiler
+ * flag -Wconversion, in C++ with -Wsign-conversion, names each place where C would convert without a cast. Every number that
+ * fits has an answer, and what the scheme does not allow is refused.
+ *
+ * What a caller owes of the memory is what every C function is owed: a pointer stands for as many bytes as the length beside it
+ * says, nothing else writes them during the call, and the pieces lent to one call do not overlap. A piece needs no alignment. A
+ * pointer is not null, also where its length is 0.
  *
  * Money in the results is in whole pence, each rounding to the nearest. An exact half goes to the even penny in a contribution,
  * a whole-year credit, the value at a month and the combined credits of two tables; it goes up in the increased pension and
@@ -23,6 +31,10 @@
 #ifdef __cplusplus
 extern "C" {
 #endif
+
+/* The archive that this header goes with. A host compares both with ap_interface() and ap_rules() at its start. */
+#define AP_INTERFACE 1u  /* one more each time a call that was there changes its parameters, or a name goes */
+#define AP_RULES 4u      /* the last request that is in the part; hosts/README.md says which results each one moved */
 
 /* Option: what is bought. */
 #define AP_OPTION_PERSONAL 1u
@@ -99,6 +111,13 @@ extern "C" {
 #define AP_REDUCTION_LIMIT_B_SECOND 24u  /* the same of the second, 0 if it was not tried */
 #define AP_REDUCTION_LIMIT_B_THIRD 32u   /* the same of the third, 0 if it was not tried */
 #define AP_REDUCTION_LIMIT_BYTES 40u
+
+/*
+ * The AP_INTERFACE and the AP_RULES of the archive that is linked. Where the first differs, the other functions may not be
+ * called; where the second does, results may differ, and a refusal may have a number that is not in this header.
+ */
+uint32_t ap_interface(void);
+uint32_t ap_rules(void);
 
 /*
  * Quotes an election.

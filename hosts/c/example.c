@@ -1,11 +1,13 @@
 /*
- * Quotes, settles and pays off a few contracts and prints how each stands; then finds a few reduction limits. Every buffer and
- * every list of marks is a piece of memory of just the length that is passed (of one byte where that is 0), so that a memory
- * checker sees a byte read or written beyond it.
+ * Quotes, settles and pays off a few contracts and prints how each stands; then finds a few reduction limits. Before its first call
+ * it looks whether the archive is the one that the header describes, and before it passes on a number that was read, whether that
+ * fits. Every buffer and every list of marks is a piece of memory of just the length that is passed (of one byte where that is 0),
+ * so that a memory checker sees a byte read or written beyond it.
  */
 #include "additional_pension.h"
 
 #include <inttypes.h>
+#include <stdbool.h>
 #include <stdio.h>
 #include <stdlib.h>
 #include <string.h>
@@ -13,6 +15,12 @@
 struct terms {
     const char *name;
     uint32_t age, pnpa_years, pnpa_months, option, payer, term, amount;
+};
+
+/* Terms as they were read, in a type that holds more than a call takes. */
+struct request {
+    const char *name;
+    long long age, pnpa_years, pnpa_months, option, payer, term, amount;
 };
 
 struct application {
@@ -37,6 +45,26 @@ static const char *const STATUSES[] = {
 
 /* What fills a buffer before a call. */
 #define UNTOUCHED 0xa5
+
+/* Whether the archive is the one that the header describes. Says so where it is not: then no other function may be called. */
+static bool archive_fits(void)
+{
+    uint32_t interface = ap_interface(), rules = ap_rules();
+    if (interface == AP_INTERFACE && rules == AP_RULES)
+        return true;
+    fprintf(stderr, "The archive has interface %" PRIu32 " and rules %" PRIu32 ", the header interface %u and rules %u.\n",
+            interface, rules, AP_INTERFACE, AP_RULES);
+    return false;
+}
+
+/* Whether a number fits a parameter, and the number as that. A cast alone would take its low 32 bits without a word. */
+static bool fits_u32(long long value, uint32_t *narrow)
+{
+    if (value < 0 || value > UINT32_MAX)
+        return false;
+    *narrow = (uint32_t)value;
+    return true;
+}
 
 /* A piece of memory. It is never null, also where the length is 0: no null pointer may be lent. */
 static void *memory(size_t length)
@@ -93,6 +121,30 @@ static void quote(const struct terms *terms, uint64_t existing_pence, uint32_t *
         printf("  quote number %12" PRIu32 "\n\n", *last_number);
     }
     free(result);
+}
+
+/* Whether a number of a request fits. Says where it does not, and what the call would have got. */
+static bool fits(const struct request *request, const char *name, long long value, uint32_t *narrow)
+{
+    if (fits_u32(value, narrow))
+        return true;
+    printf("Quote: %s\n  %s %lld does not fit and is not passed on: it would become %" PRIu32 "\n\n", request->name, name, value,
+           (uint32_t)value);
+    return false;
+}
+
+/* Quotes what was read, if every number of it fits. */
+static void quote_read(const struct request *request, uint32_t *last_number)
+{
+    struct terms terms = {.name = request->name};
+    if (fits(request, "age", request->age, &terms.age) &&
+        fits(request, "pension age", request->pnpa_years, &terms.pnpa_years) &&
+        fits(request, "odd months", request->pnpa_months, &terms.pnpa_months) &&
+        fits(request, "option", request->option, &terms.option) &&
+        fits(request, "payer", request->payer, &terms.payer) &&
+        fits(request, "term", request->term, &terms.term) &&
+        fits(request, "amount", request->amount, &terms.amount))
+        quote(&terms, 0, last_number);
 }
 
 /* Marks that are given as digits. */
@@ -268,6 +320,9 @@ int main(void)
     const struct terms lump_sum = {"lump sum, personal", 40, 68, 0, AP_OPTION_PERSONAL, AP_PAYER_EMPLOYER,
                                    AP_TERM_LUMP_SUM, 2000};
     const struct terms no_multiple = {"not a multiple", 50, 65, 0, AP_OPTION_WITH_DEPENDANT, AP_PAYER_MEMBER, 5, 1100};
+    const struct request as_read = {"as it was read", 50, 65, 0, AP_OPTION_WITH_DEPENDANT, AP_PAYER_MEMBER, 5, 1000};
+    const struct request wide_age = {"an age of ten digits", 4294967346, 65, 0, AP_OPTION_WITH_DEPENDANT, AP_PAYER_MEMBER, 5, 1000};
+    const struct request below_0 = {"an amount below 0", 50, 65, 0, AP_OPTION_WITH_DEPENDANT, AP_PAYER_MEMBER, 5, -1000};
     const struct application first_taken = {"room for the first age", 67, 50, 30000, 896, 946, 1000, 400000, 692400};
     const struct application third_taken = {"room for the third age", 68, 35, 70000, 850, 896, 946, 200000, 692400};
     const struct application no_existing = {"no existing pension", 68, 35, 70000, 850, 896, 946, 0, 692400};
@@ -276,11 +331,17 @@ int main(void)
     const struct application factor_above_1 = {"a factor above 1", 66, 35, 70000, 896, 1000, 1001, 200000, 692400};
     uint32_t last_number = 41;
 
+    if (!archive_fits())
+        return EXIT_FAILURE;
+
     quote(&nine_years, 0, &last_number);
     quote(&odd_months, 0, &last_number);
     quote(&lump_sum, 450000, &last_number);
     quote(&lump_sum, 450001, &last_number);
     quote(&no_multiple, 0, &last_number);
+    quote_read(&as_read, &last_number);
+    quote_read(&wide_age, &last_number);
+    quote_read(&below_0, &last_number);
 
     settle(&nine_years, "");
     settle(&nine_years, "11111");

@@ -1,6 +1,7 @@
 // Quote, Settle, the pay-off and the reduction limit for a host in C or Rust: plain numbers and a byte slice of marks in, the results as
 // bytes in a lent buffer. C passes no struct here: each of the seven terms and of the three factors is a parameter, option and payer are
-// numbers, and the results are numbers in the order in which they are stored.
+// numbers, and the results are numbers in the order in which they are stored. Two further calls say which
+// interface and which rules the part has.
 #![tactic(auto)]
 
 ghost use Rattle.std.specs.Prelude.{◌≡◌, [], ◌∷◌};
@@ -8,6 +9,7 @@ ghost use Rattle.quotes.specs.Quote.{numbers_of_quote};
 ghost use Rattle.pay_off.specs.PayOff.{numbers_of_pay_off};
 ghost use Rattle.reduction.specs.Answer.{numbers_of_reduction};
 ghost use Rattle.additional_pension.specs.Calls.{terms_of, application_of, host_quote_of, host_settle_of, host_pay_off_of, host_reduction_limit_of};
+ghost use Rattle.additional_pension.specs.Versions.{interface_number, rules_number};
 
 use money::PensionPence;
 use pay_off::PayOff;
@@ -16,6 +18,12 @@ use reduction::{Application, ReductionLimit};
 use refusals::{Refusal, Refused};
 use settlement::SixNumbers;
 use terms::Terms;
+
+// The calls' names and shapes.
+const INTERFACE: u32 = 1;
+
+// The last request whose rules are in the part.
+const RULES: u32 = 4;
 
 // How many bytes the results of Quote take.
 const QUOTE_BYTES: usize = 24;
@@ -216,4 +224,20 @@ pub extern "C" fn ap_reduction_limit(
     let numbers = reduction_numbers(reduction::reduction_limit(a));
     number_bytes::put_all(out, &numbers);
     numbers[0] as u32
+}
+
+// The number of the calls' names and shapes: a host that was built for another may not make the other calls.
+#[unsafe(no_mangle)]
+pub extern "C" fn ap_interface() -> u32
+    ensures { result ≡ interface_number }
+{
+    INTERFACE
+}
+
+// The number of the last request whose rules are in the part: results may be others than by the rules of another number.
+#[unsafe(no_mangle)]
+pub extern "C" fn ap_rules() -> u32
+    ensures { result ≡ rules_number }
+{
+    RULES
 }

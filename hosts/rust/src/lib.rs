@@ -1,8 +1,8 @@
 //! Additional Pension of the HSC Pension Scheme 2015: quoting an election, settling a contract and paying off its rest; and, by the
 //! guidance of the NHS Pension Scheme 2015, the limit on buying out the reduction of an early pension.
 //!
-//! The figures come from a static library whose four functions are proved to keep their rules for every input. This
-//! crate only puts Rust's types around them: it checks nothing, rounds nothing and refuses nothing of its own.
+//! The figures come from a static library whose functions are proved to keep their rules for every input. This crate only
+//! puts Rust's types around them: it checks nothing, rounds nothing and refuses nothing of its own.
 //!
 //! The library rounds to the nearest penny. An exact half goes to the even penny in a contribution, a whole-year credit, the value
 //! at a month and the combined credits of two tables; it goes up in the increased pension and the cost of a pay-off, and in the
@@ -46,6 +46,34 @@
 //! assert_eq!(limited.potentials[0].to_string(), "£1083.53 a year");
 //! # Ok::<(), additional_pension::Refusal>(())
 //! ```
+//!
+//! # Numbers that do not fit
+//!
+//! A number has to fit its type before the call. `u32::try_from` says where one does not; `as` drops what does not fit without a
+//! word, and the call prices what is left.
+//!
+//! ```
+//! let typed: u64 = 4_294_967_346;
+//! assert_eq!(typed as u32, 50);
+//! assert!(u32::try_from(typed).is_err());
+//! ```
+//!
+//! # The archive that is linked
+//!
+//! A host asks [`archive_fits`] once, at its start. Where it is false, no further function of this crate may be called: by another
+//! interface the parameters may be others, and by other rules the results. With an archive from before these two numbers, a host
+//! that asks does not link.
+//!
+//! # What panics
+//!
+//! With an archive that fits, no function of this crate panics, whatever it is given, but for [`raw::number`]: that does where a
+//! result ends less than eight bytes past the offset. The library itself never panics. With an archive of other rules [`quote`],
+//! [`settle`], [`pay_off`] and [`reduction_limit`] panic at a refusal or a status that this crate has no name for.
+//!
+//! # The stack
+//!
+//! The library takes at most 2,048 bytes of the stack in a call. That is measured and not proved; what this crate takes besides is
+//! the compiler's affair.
 
 mod application;
 mod money;
@@ -57,6 +85,11 @@ pub use application::Application;
 pub use money::{Contribution, Pension};
 pub use refusal::Refusal;
 pub use terms::{Payer, PensionAge, PensionOption, Status, Terms, ENDED, MISSED, PAID};
+
+/// Whether the archive that is linked is the one that this crate is written for, by the numbers of its interface and its rules.
+pub fn archive_fits() -> bool {
+    raw::interface() == raw::INTERFACE && raw::rules() == raw::RULES
+}
 
 /// An election that can be made.
 #[derive(Clone, Copy, Debug, PartialEq, Eq)]

@@ -1,4 +1,10 @@
-//! The library's four calls as they are: numbers and bytes.
+//! The library's calls as they are: numbers and bytes. They are safe with an archive whose [`interface`] is [`INTERFACE`].
+
+/// The interface that this crate is written for: one more each time a call that was there changes its parameters, or a name goes.
+pub const INTERFACE: u32 = 1;
+
+/// The rules that this crate is written for: the last request that was in the part.
+pub const RULES: u32 = 4;
 
 /// The bytes of a quote's result: numbers of 8 bytes, low byte first.
 pub const QUOTE_BYTES: usize = 24;
@@ -74,6 +80,10 @@ pub struct ApplicationNumbers {
 
 mod linked {
     extern "C" {
+        pub fn ap_interface() -> u32;
+
+        pub fn ap_rules() -> u32;
+
         pub fn ap_quote(
             age: u32,
             pnpa_years: u32,
@@ -141,6 +151,18 @@ macro_rules! with_terms {
     }};
 }
 
+/// The interface of the archive that is linked. Where it is not [`INTERFACE`], the calls below may not be made.
+pub fn interface() -> u32 {
+    // SAFETY: the call takes nothing, and no interface has another of this name.
+    unsafe { linked::ap_interface() }
+}
+
+/// The rules of the archive that is linked.
+pub fn rules() -> u32 {
+    // SAFETY: as for `interface`.
+    unsafe { linked::ap_rules() }
+}
+
 /// Quotes into the first [`QUOTE_BYTES`] of `out`; the rest stays. The value is the refusal, 0 for none. A shorter `out` keeps
 /// its bytes, and the value is [`SHORT_BUFFER`].
 pub fn quote(terms: &Numbers, existing_pence: u64, last_number: u32, out: &mut [u8]) -> u32 {
@@ -173,7 +195,11 @@ pub fn reduction_limit(application: &ApplicationNumbers, out: &mut [u8]) -> u32 
 }
 
 /// The number at one of the offsets of a result.
+///
+/// # Panics
+///
+/// If `result` has fewer than eight bytes from the offset on.
 pub fn number(result: &[u8], offset: usize) -> u64 {
-    let bytes = result[offset..offset + 8].try_into().expect("eight bytes");
+    let bytes = result[offset..][..8].try_into().expect("eight bytes");
     u64::from_le_bytes(bytes)
 }

@@ -2,8 +2,9 @@
 
 use std::fmt;
 
-/// A refusal. A place is a mark's index, counted from 0.
+/// A refusal. A place is a mark's index, counted from 0. Later rules may refuse for further reasons; each has a number and words.
 #[derive(Clone, Copy, Debug, PartialEq, Eq, Hash)]
+#[non_exhaustive]
 pub enum Refusal {
     /// 1: the option is neither of the two.
     Option,
@@ -62,7 +63,7 @@ impl Refusal {
             16 => Refusal::NothingToPayOff,
             17 => Refusal::Increase,
             18 => Refusal::Application,
-            _ => unreachable!("the library has no refusal {number}"),
+            _ => panic!("the archive that is linked has other rules than this crate: refusal {number}"),
         })
     }
 

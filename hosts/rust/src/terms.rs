@@ -95,7 +95,7 @@ impl Status {
             4 => Status::Ceased,
             5 => Status::Refunded,
             6 => Status::LumpSum,
-            _ => unreachable!("the library has no status {number}"),
+            _ => panic!("the archive that is linked has other rules than this crate: status {number}"),
         }
     }
 

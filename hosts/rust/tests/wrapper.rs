@@ -156,3 +156,9 @@ fn money_in_words() {
     assert_eq!(Pension(71_05).to_string(), "£71.05 a year");
     assert_eq!(Contribution(9).to_string(), "£0.09");
 }
+
+#[test]
+fn the_archive() {
+    assert_eq!((raw::interface(), raw::rules()), (raw::INTERFACE, raw::RULES));
+    assert!(archive_fits());
+}
