@@ -1,4 +1,4 @@
--- "The calls of a host", O22 to O25, P9 and L11: the calls, and every byte of what they are lent.
+-- "The calls of a host", O22 to O24, P9 and L11: the calls, and every byte of what they are lent.
 -- Assumes nothing.
 use Rattle.std.specs.Prelude.{List, [], ◌∷◌, ◌++◌, ℕ, ltb, length, drop}
 use Rattle.common.specs.Choice.{pick}
