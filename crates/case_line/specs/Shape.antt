@@ -1,4 +1,4 @@
--- "The case file", F3: what a line says.
+-- "The case file", F3 and F4: what a line says.
 -- Assumes nothing.
 use Rattle.std.specs.Prelude.{Bool, true, false, List, [], ◌∷◌, Option, Some, None, ℕ, ◌-◌, ltb, take, drop}
 use Rattle.common.specs.Choice.{pick}
@@ -30,7 +30,7 @@ fields_of line =
       terms = record { age = age; pnpa_years = pnpa_years; pnpa_months = pnpa_months; option = option; payer = payer; term = term; amount = amount };
     })))))))))
 
--- F3: from 30 the marks: digits, nothing between
+-- F3, F4: from 30 the marks: digits, nothing between
 unfoldable pub all_digits : List ℕ → Bool
 all_digits [] = true
 all_digits (b ∷ bs) = pick (ltb b 48) false (pick (ltb 57 b) false (all_digits bs))

@@ -14,7 +14,7 @@ unfoldable pub lines_after : List ℕ → List ℕ → List (List ℕ)
 lines_after p [] = last_line_of p
 lines_after p (b ∷ bs) = pick (eqb b 10) (p ∷ lines_after [] bs) (lines_after (p ++ (b ∷ [])) bs)
 
--- F6: a line of the listing for each line, in order; no header
+-- F1, F6: a line of the listing for each line, in order; no header
 unfoldable pub list_lines : List (List ℕ) → List ℕ
 list_lines [] = []
 list_lines (l ∷ ls) = line_of l ++ list_lines ls

@@ -1,4 +1,5 @@
--- "From rate to contribution and credit", C10 and C12, and E6: where the paid runs of a list of marks begin and end, and how many there are, k.
+-- "From rate to contribution and credit", C10 and C12, and E6: where the paid runs of a list of marks begin and end, and how many there
+-- are, k.
 -- Assumes nothing.
 use Rattle.std.specs.Prelude.{Bool, true, false, List, [], ◌∷◌, map, ◌≡◌, ℕ, suc, ◌≤◌, ◌<◌, eqb, get_or}
 

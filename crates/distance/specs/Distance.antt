@@ -1,4 +1,4 @@
--- "The exact credit", E7: the credit against the exact credit, of a contract at any pension age, by any rounding.
+-- "The exact credit", E4, E5 and E7: the credit against the exact credit, of a contract at any pension age, by any rounding.
 -- Assumes nothing.
 use Rattle.std.specs.Prelude.{List, ◌≡◌, ℕ, ◌+◌, ◌*◌, ◌-◌, ◌≤◌, ◌<◌, eqb}
 use Rattle.common.specs.Choice.{pick}
@@ -37,7 +37,8 @@ exact_credit_by c marks =
     pick (eqb c.odd_months 0) (exact_credit c.lower marks)
     (exact_blend c.odd_months (exact_credit c.lower marks) (exact_credit c.upper marks))
 
--- R6, T2, T5: What the theorems ask: odd months below 12, a term of at most the longest, falling rates, the same term, unit and units in both tables.
+-- R6, T2, T5: What the theorems ask: odd months below 12, a term of at most the longest, falling rates, the same term, unit and units in
+-- both tables.
 pub record SoundPurchases (c : Purchases) : Type 0 where
   pub odd_most : c.odd_months < months_in_year
   pub term_most : c.lower.term ≤ longest_term

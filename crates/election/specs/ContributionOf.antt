@@ -13,6 +13,6 @@ contribution_at t rate = units_of t * rate
 unfoldable pub contribution_in : Terms → (pension_age : ℕ) → ℕ
 contribution_in t pension_age = contribution_at t (table_rate t pension_age)
 
--- C2: at a whole pension age that of the one table, exact in pence; with odd months each neighbouring table's own, combined
+-- C2 to C4: at a whole pension age that of the one table, exact in pence; with odd months each neighbouring table's own, combined
 unfoldable pub contribution_of : Terms → ℕ
 contribution_of t = combine t.pnpa_months (contribution_in t t.pnpa_years) (contribution_in t (t.pnpa_years + 1))

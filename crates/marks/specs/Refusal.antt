@@ -6,8 +6,8 @@ use Rattle.common.specs.Calendar.{months_in_year}
 use Rattle.refusals.specs.Places.{RefusedAt, refusing}
 use Rattle.marks.specs.Counts.{last_or, final_gap}
 
--- M1 to M4: the refusal of a mark m after the marks before it, 0 for none: 11 above 2; 12 for a 0 or 1 after a 2, for a 0 that stands first, and
--- for a 1 after more missed months than leave the contract open
+-- M1 to M4, O9: the refusal of a mark m after the marks before it, 0 for none: 11 above 2; 12 for a 0 or 1 after a 2, for a 0 that stands
+-- first, and for a 1 after more missed months than leave the contract open
 unfoldable pub mark_refusal : (open_months : ℕ) (before : List ℕ) (m : ℕ) → ℕ
 mark_refusal open_months before m =
     pick (ltb 2 m) 11

@@ -76,7 +76,7 @@ contract_pay_off t status credit age_now increase =
     (priced_pay_off t credit (lump_sum_now t age_now t.pnpa_years) (lump_sum_now t age_now (t.pnpa_years + 1)) increase)
     (refused_pay_off (contract_refusal t status age_now increase) 0)
 
--- P4: Pay off: what Settle refuses is refused with Settle's number and place
+-- P1, P4: Pay off: what Settle refuses is refused with Settle's number and place
 unfoldable pub pay_off_of : Terms → (marks : List ℕ) → (age_now increase : ℕ) → PayOffNumbers
 pay_off_of t marks age_now increase =
     let settled = settle_of t marks in

@@ -26,7 +26,7 @@ last_quote_number = 999999
 unfoldable pub quote_refusal : Terms → (existing last : ℕ) → ℕ
 quote_refusal t existing last = first_of (refusal_of t existing) (pick (leb last_quote_number last) 9 0)
 
--- O6: A refusal gives its number, zeros and the register unchanged; success the contribution and the last number plus 1,
+-- O4, O6: A refusal gives its number, zeros and the register unchanged; success the contribution and the last number plus 1,
 -- which the register then holds.
 unfoldable pub quote_of : Terms → (existing last : ℕ) → QuoteNumbers
 quote_of t existing last =

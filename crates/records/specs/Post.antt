@@ -11,8 +11,8 @@ use Rattle.records.specs.Record.{used_marks, bad_record}
 abbrev pub settled_with : Contract → (mark : ℕ) → SettleNumbers
 settled_with c m = settle_of c.terms (used_marks c ++ (m ∷ []))
 
--- O13: what posting answers: 13 for a bad record; then what Settle refuses with the new mark, and where. Of a record that is not bad that is the
--- new mark, at the record's count, or 10 with no place (proofs/Place.antt).
+-- O13: what posting answers: 13 for a bad record; then what Settle refuses with the new mark, and where. Of a record that is not bad that
+-- is the new mark, at the record's count, or 10 with no place (proofs/Place.antt).
 unfoldable pub post_of : Contract → (mark : ℕ) → RefusedAt
 post_of c m =
     pick (bad_record c) (refusing 13 0) (refusing (settled_with c m).refusal (settled_with c m).place)

@@ -1,4 +1,4 @@
--- "The reduction buy-out limit", L10: what it gives.
+-- "The reduction buy-out limit", L10, with L1, L2 and L12: what it gives.
 -- Assumes nothing.
 use Rattle.std.specs.Prelude.{Bool, false, ◌&&◌, ◌||◌, ℕ, leb, eqb, List, is_some, unwrap_or, Result, Ok, Err, slice_index_or}
 use Rattle.common.specs.Choice.{pick}
@@ -36,11 +36,11 @@ refused_with refusal = record { refusal = refusal; age = 0; first = 0; second = 
 abbrev pub refused_reduction : ReductionNumbers
 refused_reduction = refused_with 18
 
--- L2, L9: the reduction limit by a test of the three candidates; 18 comes before anything else
+-- L2, L9, L12: the reduction limit by a test of the three candidates; 18 comes before anything else
 unfoldable pub reduction_by : (taken : ℕ → Bool) → Application → ReductionNumbers
 reduction_by taken a = pick (out_of_range a) refused_reduction (found_reduction a (search_by taken a 0 3))
 
--- L7: the reduction limit: by B < C
+-- L1, L7: the reduction limit: by B < C
 unfoldable pub reduction_limit_of : Application → ReductionNumbers
 reduction_limit_of a = reduction_by (candidate_is_taken a) a
 
@@ -58,7 +58,7 @@ abbrev pub numbers_of_reduction : Result ReductionLimit Refusal → ReductionNum
 numbers_of_reduction (Ok r) = answered_reduction (unwrap_or r.age 0) r.potentials
 numbers_of_reduction (Err e) = refused_with (refusal_number e)
 
--- L10: whether an answer has an age
+-- O2, L10: whether an answer has an age
 abbrev pub has_scope : Result ReductionLimit Refusal → Bool
 has_scope (Ok r) = is_some r.age
 has_scope (Err e) = false

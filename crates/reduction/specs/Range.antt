@@ -13,8 +13,8 @@ most_reduction_pence = pounds_in_pence 1000000
 unfoldable pub outside_range : (least most x : ℕ) → Bool
 outside_range least most x = ltb x least || ltb most x
 
--- L2, refusal 18: the pension age is not 66 to 70, the age not 24 to 64, the pay not £1 to £200,000; a factor is above 1,000 thousandths, whether it
--- is used or not; A or L is above £1,000,000
+-- L2, refusal 18: the pension age is not 66 to 70, the age not 24 to 64, the pay not £1 to £200,000; a factor is above 1,000 thousandths,
+-- whether it is used or not; A or L is above £1,000,000
 unfoldable pub out_of_range : Application → Bool
 out_of_range a =
     outside_range 66 70 a.npa

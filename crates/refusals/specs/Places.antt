@@ -12,7 +12,7 @@ pub record RefusedAt : Type 0 where
 abbrev pub refusing : (refusal place : ℕ) → RefusedAt
 refusing refusal place = record { refusal = refusal; place = place }
 
--- O1: the number and the place of an answer that may be a refusal
+-- O1, O2: the number and the place of an answer that may be a refusal
 abbrev pub refused_in : {A : Type 0} → Result A Refused → RefusedAt
 refused_in (Ok x) = refusing 0 0
 refused_in (Err e) = refusing (refusal_number e.refusal) e.place

@@ -1,6 +1,6 @@
--- "Halves to the even penny", H5: exact halves in each of the four figures that take them to the even penny, one that goes down and one that
--- goes up. Those of C4 that have stood in G2 since the start are in `Rows`, and the pay-off's half is in `PayOffRows`. A lump sum meets no half:
--- both tables have the same one.
+-- "Halves to the even penny", H5: exact halves in each of the four figures that take them to the even penny, one that goes down and one
+-- that goes up. Those of C4 that have stood in G2 since the start are in `Rows`, and the pay-off's half is in `PayOffRows`. A lump sum
+-- meets no half: both tables have the same one.
 -- Assumes nothing.
 use Rattle.std.specs.Prelude.{List, [], ◌∷◌, ◌++◌, ℕ, ◌+◌, ◌*◌}
 use Rattle.rounding.specs.Nearest.{nearest, combine_by}

@@ -11,7 +11,7 @@ use Rattle.rows.specs.Rows.{Row, ◌is◌, only}
 abbrev pub greatest : Terms
 greatest = record { age = 63; pnpa_years = 65; pnpa_months = 0; option = 2; payer = 1; term = 1; amount = 6500 }
 
--- N3: the rate is 3,816 tenths of a pound; for twenty-six units that makes 99,216 tenths, more than 16 bits hold
+-- N1, N3: the rate is 3,816 tenths of a pound; for twenty-six units that makes 99,216 tenths, more than 16 bits hold
 unfoldable pub narrow_rows : List Row
 narrow_rows =
     (only (rate_of 2 65 63 1) is only (tenths_in_pence 3816))

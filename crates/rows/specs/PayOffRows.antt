@@ -37,8 +37,8 @@ paid_off t marks age_now increase =
 abbrev pub four_years : Terms
 four_years = record { age = 60; pnpa_years = 66; pnpa_months = 5; option = 1; payer = 1; term = 4; amount = 1500 }
 
--- P2, P3, P7: £1,000 over 5 years: 18 paid months, at 1.250 also, where half a penny goes up though that of the credit went down; the gap, ceased,
--- complete; then the other contract
+-- P2, P3, P7: £1,000 over 5 years: 18 paid months, at 1.250 also, where half a penny goes up though that of the credit went down; the gap,
+-- ceased, complete; then the other contract
 unfoldable pub contract_rows : List Row
 contract_rows =
     (paid_off five_years (paid_for 18) 51 1011 is (0 ∷ 0 ∷ 67202 ∷ 67941 ∷ 812574 ∷ []))

@@ -61,8 +61,8 @@ until66 = member_of 66 50 30000 896 1000 1000
 abbrev pub unreduced : Member
 unreduced = member_of 68 35 70000 1000 1000 1000
 
--- L13: no existing pension, with a limit of 0 and one above B; B = C, where the next candidate is tried, and a limit that is a penny more; a limit
--- below existing pension; the second candidate at the pension age, at B = C and with a penny more; all three fail; C is below zero
+-- L13: no existing pension, with a limit of 0 and one above B; B = C, where the next candidate is tried, and a limit that is a penny more;
+-- a limit below existing pension; the second candidate at the pension age, at B = C and with a penny more; all three fail; C is below zero
 unfoldable pub search_rows : List Row
 search_rows =
     (limited example_b 0 0 is (0 ∷ 65 ∷ 108353 ∷ 0 ∷ 0 ∷ []))
@@ -92,8 +92,8 @@ power_rows =
     ∷ (only (power_of 22 * 1015) is only 1408377155500)
     ∷ []
 
--- L13: B at an exact half, 304.5 pence, which the even penny would take down; the greatest B of all, a penny less with the power rounded down;
--- and its product without the hundred, which 64 bits just hold
+-- L13: B at an exact half, 304.5 pence, which the even penny would take down; the greatest B of all, a penny less with the power rounded
+-- down; and its product without the hundred, which 64 bits just hold
 unfoldable pub potential_rows : List Row
 potential_rows =
     (limited (last_year 162) 0 0 is (0 ∷ 65 ∷ 305 ∷ 0 ∷ 0 ∷ []))

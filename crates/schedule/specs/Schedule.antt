@@ -22,11 +22,11 @@ pub record ScheduleNumbers : Type 0 where
   pub place : ℕ
   pub list : List ℕ
 
--- O17: the numbers of an answer, beside the list
+-- O2, O17: the numbers of an answer, beside the list
 abbrev pub numbers_of_schedule : Result Unit Refused → List ℕ → ScheduleNumbers
 numbers_of_schedule r list = record { refusal = (refused_in r).refusal; place = (refused_in r).place; list = list }
 
--- O18, O19: Settle's refusal with its place, then 14 for a list that is shorter than the marks; neither writes anything
+-- O16 to O19: Settle's refusal with its place, then 14 for a list that is shorter than the marks; neither writes anything
 unfoldable pub schedule_of : Terms → List ℕ → List ℕ → ScheduleNumbers
 schedule_of t marks list =
     pick (eqb (settle_of t marks).refusal 0)

@@ -1,9 +1,10 @@
--- "What each operation gives", O3: the largest numbers that the scheme's tables, cap and rules lead to, and the last refusal numbers.
+-- "Rates", R10, and "What each operation gives", O3: the largest numbers that the scheme's tables, cap and rules lead to, and the last
+-- refusal numbers.
 -- Assumes nothing.
 use Rattle.std.specs.Prelude.{ℕ, ◌*◌, ◌-◌, ◌/◌, max}
 use Rattle.scheme.specs.Scheme.{step_pounds, cap_pounds, ceased_from}
 
--- R8: the largest rates for a step, in pence: £381.60 a month, and £4,560 as a lump sum
+-- R10: the largest rates for a step, in pence: £381.60 a month, and £4,560 as a lump sum
 abbrev pub most_monthly_rate : ℕ
 most_monthly_rate = 38160
 
@@ -24,7 +25,7 @@ most_lump_sum = most_steps * most_lump_sum_rate
 abbrev pub most_contribution : ℕ
 most_contribution = max most_monthly_contribution most_lump_sum
 
--- O3: the largest refund, £118,560: of the months before a contract has ceased, or of one lump sum
+-- O3: no refund is larger than £118,560: neither the months before a contract has ceased cost more, nor a lump sum
 abbrev pub most_refund : ℕ
 most_refund = max ((ceased_from - 1) * most_monthly_contribution) most_lump_sum
 

@@ -1,4 +1,4 @@
--- "Terms of an election", T5 to T7, "Rates", R3, and "Marks and status", M3 and M12: the numbers of the scheme by name.
+-- A5, T5 to T7, R3, C5, M3, M12 and O11: the numbers of the scheme by name.
 -- Assumes nothing.
 use Rattle.std.specs.Prelude.{ℕ, suc, ◌*◌}
 use Rattle.common.specs.Calendar.{months_in_year}
@@ -21,7 +21,7 @@ step_pence = pounds_in_pence step_pounds
 abbrev pub cap_pence : ℕ
 cap_pence = pounds_in_pence cap_pounds
 
--- T5, M1: the longest term, in years, and the most marks that it has
+-- T5, O11: the longest term, in years, and the most marks that it has
 abbrev pub longest_term : ℕ
 longest_term = 20
 

@@ -8,7 +8,8 @@ use Rattle.credit.specs.Credit.{credit_in}
 use Rattle.distance.specs.Fraction.{Fraction}
 use Rattle.distance.specs.Distance.{Purchases, exact_credit_by}
 
--- C14: at a whole pension age that of the one table; with odd months each neighbouring table's is worked out whole, and then they are combined
+-- C4, C14: at a whole pension age that of the one table; with odd months each neighbouring table's is worked out whole, and then they are
+-- combined
 unfoldable pub credit_of : Terms → (marks : List ℕ) → ℕ
 credit_of t marks =
     combine t.pnpa_months

@@ -1,4 +1,4 @@
--- "Settle", O8 to O10.
+-- "Settle", O8 to O10, with M13 and M14.
 -- Assumes nothing.
 use Rattle.std.specs.Prelude.{Result, Ok, Err, List, ℕ, ◌*◌, eqb}
 use Rattle.common.specs.Choice.{pick}

@@ -10,8 +10,8 @@ use Rattle.terms.specs.declared.Terms.{Terms}
 abbrev pub units_of : Terms → ℕ
 units_of t = t.amount / step_pounds
 
--- R1, R2: the rate per £250 for an option, a whole pension age, an age and a term: of Table S for a lump sum, else of the monthly table; 0 where
--- there is none
+-- R1, R2, T5: the rate per £250 for an option, a whole pension age, an age and a term: of Table S for a lump sum, else of the monthly
+-- table; 0 where there is none
 unfoldable pub rate_for : (option pension_age age term : ℕ) → ℕ
 rate_for option pension_age age term = pick (eqb term 0) (lump_rate_of option pension_age age) (rate_of option pension_age age term)
 

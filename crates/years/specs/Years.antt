@@ -1,5 +1,5 @@
--- "From rate to contribution and credit", C5 to C9: what one table's contract is worth after whole years, and at any month between
--- them. The rounding is an argument: Settle takes `nearest`.
+-- "From rate to contribution and credit", C4 to C9, with C1 and R6: what one table's contract is worth after whole years, and at any month
+-- between them. The rounding is an argument: Settle takes `nearest`.
 -- Assumes nothing.
 use Rattle.std.specs.Prelude.{List, ℕ, suc, ◌*◌, ◌/◌, ◌%◌, ◌≤◌, ◌<◌, leb, eqb, get_or}
 use Rattle.common.specs.Choice.{pick}
@@ -8,8 +8,8 @@ use Rattle.common.specs.Calendar.{months_in_year}
 use Rattle.scheme.specs.Scheme.{row_places}
 use Rattle.rounding.specs.Nearest.{twelfths}
 
--- C1, C7: What one table knows of a monthly contract: its rate in pence at each term, the unit that a rate is for in pence of pension a year, how
--- many units are bought, the term in years.
+-- C1, C7: What one table knows of a monthly contract: its rate in pence at each term, the unit that a rate is for in pence of pension a
+-- year, how many units are bought, the term in years.
 pub record Purchase : Type 0 where
   pub rate : ℕ → ℕ
   pub unit : ℕ
@@ -25,7 +25,7 @@ pub record FallingRates (p : Purchase) : Type 0 where
 abbrev pub own_contribution : Purchase → ℕ
 own_contribution p = p.units * p.rate p.term
 
--- C6 to C8: What the contribution buys in n years, by the rate for n, rounded; nothing at the start, and nothing beyond the term.
+-- C4, C6 to C8: What the contribution buys in n years, by the rate for n, rounded; nothing at the start, and nothing beyond the term.
 unfoldable pub year_credit : (round : ℕ → ℕ → ℕ) → Purchase → (n : ℕ) → ℕ
 year_credit round p n =
     pick (eqb n 0) 0 (pick (leb n p.term) (round (own_contribution p * p.unit) (p.rate n)) 0)
@@ -40,6 +40,6 @@ abbrev pub month_numerator : (years : ℕ → ℕ) (month : ℕ) → ℕ
 month_numerator years month =
     twelfths (month % months_in_year) (years (month / months_in_year)) (years (suc (month / months_in_year)))
 
--- C9: What a row is worth at a month.
+-- C4, C9: What a row is worth at a month.
 unfoldable pub month_value : (round : ℕ → ℕ → ℕ) (row : List ℕ) (month : ℕ) → ℕ
 month_value round row month = round (month_numerator (λ n. get_or row n 0) month) months_in_year
