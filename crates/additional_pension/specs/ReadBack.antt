@@ -1,4 +1,4 @@
--- "The calls of a host", O22 and O23: what a host reads out of the bytes.
+-- "The calls of a host", O22, O23, P9 and L11: what a host reads out of the bytes.
 -- Assumes nothing.
 use Rattle.std.specs.Prelude.{List, [], ◌∷◌, ◌≡◌, ℕ, ◌+◌, ◌*◌, take, drop}
 use Rattle.quotes.specs.Quote.{QuoteNumbers}

@@ -57,12 +57,12 @@ taken_of p chunk out n =
 unfoldable pub chunk_of : List ℕ → List ℕ → List ℕ → ChunkNumbers
 chunk_of p chunk out = taken_of p chunk out (taken_with (length out / listed_bytes) chunk)
 
--- F8: what the end of the file gives: the open line's line of the listing; nothing where none is open
+-- F5, F8: what the end of the file gives: the open line's line of the listing; nothing where none is open
 unfoldable pub end_of : List ℕ → Option (List ℕ)
 end_of [] = None
 end_of (b ∷ bs) = Some (line_of (b ∷ bs))
 
--- F8: the bytes that are written for it
+-- F5, F8: the bytes that are written for it
 abbrev pub row_bytes : Option (List ℕ) → List ℕ
 row_bytes None = []
 row_bytes (Some row) = row

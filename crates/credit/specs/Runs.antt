@@ -1,4 +1,4 @@
--- "From rate to contribution and credit", C10 and C12, and E6: where the paid runs of a list of marks begin and end, and how many there
+-- "From rate to contribution and credit", C10 and C12, with M1 and E6: where the paid runs of a list of marks begin and end, and how many there
 -- are, k.
 -- Assumes nothing.
 use Rattle.std.specs.Prelude.{Bool, true, false, List, [], ◌∷◌, map, ◌≡◌, ℕ, suc, ◌≤◌, ◌<◌, eqb, get_or}
@@ -16,7 +16,7 @@ infix 60 ◌until◌
 abbrev pub ◌until◌ : ℕ → ℕ → Run
 a until b = record { from = a; to = b }
 
--- C12: the runs from index i on, outside a run; and those inside a run that began at month a
+-- C10, C12: the runs from index i on, outside a run; and those inside a run that began at month a
 unfoldable mutual
   pub runs_from : ℕ → List Bool → List Run
   runs_from i [] = []

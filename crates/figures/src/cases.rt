@@ -39,8 +39,8 @@ pub static DOCUMENT_001: [Asked; 8] = [
     Settle(On(60, 66, 5, 1, 1, 4, 1500), &[(1, 12), (2, 1)]),
 ];
 
-// The rates that the figures G1 to G5 go by.
-pub static DOCUMENT_01: [Asked; 10] = [
+// The rates of G5, and where D65 ends.
+pub static RATES: [Asked; 10] = [
     Rate(2, 67, 50, 1),
     Rate(2, 67, 50, 9),
     Rate(2, 65, 50, 1),

@@ -40,7 +40,7 @@ refused_reduction = refused_with 18
 unfoldable pub reduction_by : (taken : ℕ → Bool) → Application → ReductionNumbers
 reduction_by taken a = pick (out_of_range a) refused_reduction (found_reduction a (search_by taken a 0 3))
 
--- L1, L7: the reduction limit: by B < C
+-- L1, L7 to L10: the reduction limit: by B < C
 unfoldable pub reduction_limit_of : Application → ReductionNumbers
 reduction_limit_of a = reduction_by (candidate_is_taken a) a
 

@@ -1,4 +1,4 @@
--- "The reduction buy-out limit", L3, L4 and L6 to L9: up to three candidate ages, one after the other, and which of them is taken.
+-- "The reduction buy-out limit", L1, L3, L4 and L6 to L9: up to three candidate ages, one after the other, and which of them is taken.
 -- Assumes nothing.
 use Rattle.std.specs.Prelude.{Bool, ◌||◌, ℕ, zero, suc, ◌+◌, ◌-◌, max, ltb, eqb, ℤ, pos, slice_index}
 use Rattle.std.proofs.Math.IntN.{sub_ℕ}

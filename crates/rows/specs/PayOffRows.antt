@@ -18,7 +18,7 @@ step_rows =
     ∷ (only (cost_of 120956 385250 0 0) is only 1863932)
     ∷ []
 
--- P2, P3, in no paper: £5.00 at 1.001 is half a penny above £5.00, and a penny at £625.00 costs two and a half pence, where the even penny
+-- P2, P3, P8: £5.00 at 1.001 is half a penny above £5.00, and a penny at £625.00 costs two and a half pence, where the even penny
 -- would be £5.00 and 2; £2,000.00 at the rate a month on from £250.01 towards £250.00 is a penny dearer where that rate is rounded first
 unfoldable pub half_rows : List Row
 half_rows =
@@ -37,7 +37,7 @@ paid_off t marks age_now increase =
 abbrev pub four_years : Terms
 four_years = record { age = 60; pnpa_years = 66; pnpa_months = 5; option = 1; payer = 1; term = 4; amount = 1500 }
 
--- P2, P3, P7: £1,000 over 5 years: 18 paid months, at 1.250 also, where half a penny goes up though that of the credit went down; the gap,
+-- P2, P3, P7, P8: £1,000 over 5 years: 18 paid months, at 1.250 also, where half a penny goes up though that of the credit went down; the gap,
 -- ceased, complete; then the other contract
 unfoldable pub contract_rows : List Row
 contract_rows =
@@ -49,7 +49,7 @@ contract_rows =
     ∷ (paid_off four_years (paid_for 9) 61 1011 is (0 ∷ 0 ∷ 119083 ∷ 120393 ∷ 1829974 ∷ []))
     ∷ []
 
--- P4 to P6: refusals: a mark that Settle refuses, no marks, refunded, each at an increase and an age that would be refused too; then at the
+-- P4 to P6, P8: refusals: a mark that Settle refuses, no marks, refunded, each at an increase and an age that would be refused too; then at the
 -- increases next to those taken, and at the age
 unfoldable pub refused_rows : List Row
 refused_rows =

@@ -100,7 +100,7 @@ whole_part x = only (x.num / x.den)
 abbrev pub is_fraction : Fraction → ℕ → ℕ → Row
 is_fraction x n d = only (x.num * d) is only (n * x.den)
 
--- G4, in no paper: the exact credit of the 18 paid months, which is half of the sum of £242.00 ÷ £271.80 × £250 and £242.00 ÷ £139.60 × £250
+-- G4: the exact credit of the 18 paid months, which is half of the sum of £242.00 ÷ £271.80 × £250 and £242.00 ÷ £139.60 × £250
 unfoldable pub exact_rows : List Row
 exact_rows =
     (whole_part (exact_credit_of five_years (paid_for 18)) is only 32798)
@@ -118,7 +118,7 @@ status_rows =
     ∷ (settle_figures five_years (2 ∷ []) is (0 ∷ 0 ∷ 24200 ∷ 5 ∷ 0 ∷ 0 ∷ []))
     ∷ []
 
--- G4, in no paper: a contract on which rounding only at the end would give a penny more, and one with 5 odd months on which dividing
+-- G4: a contract on which rounding only at the end would give a penny more, and one with 5 odd months on which dividing
 -- the blended contribution by each table's rate would give other figures
 unfoldable pub telling_rows : List Row
 telling_rows =

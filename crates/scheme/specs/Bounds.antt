@@ -29,7 +29,7 @@ most_contribution = max most_monthly_contribution most_lump_sum
 abbrev pub most_refund : ℕ
 most_refund = max ((ceased_from - 1) * most_monthly_contribution) most_lump_sum
 
--- O5, O9: the last number that refuses terms, a quote and a settlement
+-- O3, O5, O9: the last number that refuses terms, a quote and a settlement
 abbrev pub last_terms_refusal : ℕ
 last_terms_refusal = 8
 

@@ -25,11 +25,11 @@ wrong_term t = ltb longest_term t.term
 unfoldable pub wrong_payer : Terms → Bool
 wrong_payer t = not (eqb t.payer 1 || eqb t.payer 2) || (eqb t.payer 2 && ltb 0 t.term)
 
--- R5: the rate of the upper pension age, which odd months need, is none
+-- C2, R5: the rate of the upper pension age, which odd months need, is none
 abbrev pub missing_upper : Terms → (upper : ℕ) → Bool
 missing_upper t upper = not (eqb t.pnpa_months 0) && eqb upper 0
 
--- R5: of two rates one is none: that of the only or lower pension age, or that of the upper where it is needed
+-- C2, R5: of two rates one is none: that of the only or lower pension age, or that of the upper where it is needed
 abbrev pub lacks_either : Terms → (lower upper : ℕ) → Bool
 lacks_either t lower upper = eqb lower 0 || missing_upper t upper
 

@@ -16,7 +16,7 @@ pub record Purchase : Type 0 where
   pub units : ℕ
   pub term : ℕ
 
--- R6: The rule for the rows of monthly tables: up to the term every rate is above 0, and none is more than the one before.
+-- R5, R6: The rule for the rows of monthly tables: up to the term every rate is above 0, and none is more than the one before.
 pub record FallingRates (p : Purchase) : Type 0 where
   pub positive : (n : ℕ) → 0 < n → n ≤ p.term → 0 < p.rate n
   pub falls : (n : ℕ) → 0 < n → n < p.term → p.rate (suc n) ≤ p.rate n

@@ -147,11 +147,14 @@ fn stored_postings_and_totals() {
     assert_eq!(difference(&stored("posting"), &rendered), None);
 }
 
-/// A line of `figures`: its label, which ends in its kind, and the numbers asked.
+/// A line of `figures`: its label, which ends in its kind, the first word in small letters, and the numbers asked.
 fn read_figure(line: &str) -> (String, Vec<u64>) {
     let (asked, _) = line.split_once(" is ").unwrap_or_else(|| panic!("nothing is given in {line:?}"));
     let words: Vec<&str> = asked.split(' ').collect();
-    let kind = words.iter().position(|word| word.parse::<u64>().is_err()).unwrap_or_else(|| panic!("no kind in {line:?}"));
+    let kind = words
+        .iter()
+        .position(|word| word.starts_with(|first: char| first.is_ascii_lowercase()))
+        .unwrap_or_else(|| panic!("no kind in {line:?}"));
     let number = |word: &&str| word.parse().unwrap_or_else(|_| panic!("{word:?} is asked in {line:?}"));
     (words[..=kind].join(" "), words[kind + 1..].iter().map(number).collect())
 }
