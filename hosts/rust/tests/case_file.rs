@@ -6,6 +6,8 @@ use reference::samples::{self, Random};
 use std::env;
 use std::fs::{File, OpenOptions};
 use std::io::{Read, Write};
+use std::os::fd::OwnedFd;
+use std::os::unix::net::UnixStream;
 use std::path::PathBuf;
 use std::process::{Command, Stdio};
 use std::thread;
@@ -165,6 +167,19 @@ fn failures_are_said() {
     child.stdin.take().expect("its standard input is a pipe").write_all(SOUND).expect("the program reads");
     let unwritten = child.wait_with_output().expect("the program ends");
     assert_eq!(unwritten.stderr, b"settle_cases: writing failed\n");
+}
+
+/// Where reading fails inside a line, the lines before it are listed and that one is not.
+#[test]
+fn reading_fails_inside_a_line() {
+    let (mut sender, mut receiver) = UnixStream::pair().expect("a pair of streams can be made");
+    // Closed before it was read to its end, a stream fails the reader at its other end, once that has what was sent.
+    receiver.write_all(b"unread").expect("the stream takes a few bytes");
+    sender.write_all(&[SOUND, b"\n", SOUND].concat()).expect("the stream takes two lines");
+    drop(sender);
+    let cut_off = Command::new(program()).stdin(OwnedFd::from(receiver)).output().expect("the program starts");
+    assert_eq!(cut_off.stderr, b"settle_cases: reading failed\n");
+    assert_eq!(difference(&cut_off.stdout, &reference_listing(&[SOUND, b"\n"].concat())), None);
 }
 
 /// Every length of a line about the edges of a reader's buffer.
