@@ -1,5 +1,6 @@
 // Settles the case file on standard input and prints its listing on standard output, in fixed memory. Where reading or
-// writing fails it stops and says so on standard error, and no line is printed for what was not read to its end.
+// writing fails it stops, says so on standard error and ends with status 1, and no line is printed for what was not read
+// to its end.
 #![tactic(auto)]
 
 ghost use Rattle.settle_cases.specs.HandedOn.{AfterPrinting, HandedOn};
@@ -7,6 +8,7 @@ ghost use Rattle.settle_cases.specs.HandedOn.{AfterPrinting, HandedOn};
 use casefile::OpenLine;
 use std::fmt;
 use std::io::{Read, Write};
+use std::process::ExitCode;
 
 // What stops the program before the end of its input.
 #[derive(Clone, Copy, Debug, PartialEq, Eq)]
@@ -94,7 +96,7 @@ impl<R: Read, W: Write> Settling<R, W> {
     }
 }
 
-fn main(rt: HostRuntime) {
+fn main(rt: HostRuntime) -> ExitCode {
     let mut settling = Settling {
         input: rt.stdin(),
         output: rt.stdout(),
@@ -105,5 +107,7 @@ fn main(rt: HostRuntime) {
     if let Err(failure) = settling.settle_input() {
         // A message that can't be written either is given up.
         let _ = eprintln!(rt; "settle_cases: {failure}");
+        return ExitCode::FAILURE;
     }
+    ExitCode::SUCCESS
 }

@@ -160,6 +160,7 @@ fn failures_are_said() {
     let folder = File::open(env::temp_dir()).expect("the folder for temporary files can be opened");
     let unread = Command::new(program()).stdin(folder).output().expect("the program starts");
     assert_eq!((&unread.stdout[..], &unread.stderr[..]), (&b""[..], &b"settle_cases: reading failed\n"[..]));
+    assert_eq!(unread.status.code(), Some(1));
 
     let full = OpenOptions::new().write(true).open("/dev/full").expect("there is a full device");
     let mut child =
@@ -167,6 +168,7 @@ fn failures_are_said() {
     child.stdin.take().expect("its standard input is a pipe").write_all(SOUND).expect("the program reads");
     let unwritten = child.wait_with_output().expect("the program ends");
     assert_eq!(unwritten.stderr, b"settle_cases: writing failed\n");
+    assert_eq!(unwritten.status.code(), Some(1));
 }
 
 /// Where reading fails inside a line, the lines before it are listed and that one is not.
@@ -179,6 +181,7 @@ fn reading_fails_inside_a_line() {
     drop(sender);
     let cut_off = Command::new(program()).stdin(OwnedFd::from(receiver)).output().expect("the program starts");
     assert_eq!(cut_off.stderr, b"settle_cases: reading failed\n");
+    assert_eq!(cut_off.status.code(), Some(1));
     assert_eq!(difference(&cut_off.stdout, &reference_listing(&[SOUND, b"\n"].concat())), None);
 }
 
