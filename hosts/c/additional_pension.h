@@ -9,10 +9,10 @@
  *
  * What a caller owes of the numbers: that each fits the type of its parameter before the call. C makes it fit without a word,
  * and the call never sees what it was: from long age = 4294967346 it gets 50, which is priced, and from -1 it gets 4294967295.
- * A mark of 257 becomes 1, a paid month. So compare a number that may be negative or too large with 0 and UINT32_MAX (or
- * UINT64_MAX, UINT8_MAX), in the type in which it was read or computed, before it is cast; hosts/c/example.c does. The compiler
- * flag -Wconversion, in C++ with -Wsign-conversion, names each place where C would convert without a cast. Every number that
- * fits has an answer, and what the scheme does not allow is refused.
+ * A mark of 257 becomes 1, a paid month; a fraction is cut off. So compare a number that may be negative or too large with 0
+ * and UINT32_MAX (or UINT64_MAX, UINT8_MAX), in the type in which it was read or computed, before it is cast;
+ * hosts/c/example.c does. The compiler flag -Wconversion, in C++ with -Wsign-conversion, names each place where C would
+ * convert without a cast. Every number that fits has an answer, and what the scheme does not allow is refused.
  *
  * What a caller owes of the memory is what every C function is owed: a pointer stands for as many bytes as the length beside it
  * says, nothing else writes them during the call, and the pieces lent to one call do not overlap. A piece needs no alignment. A
@@ -47,7 +47,10 @@ extern "C" {
 /* A term of 0 stands for a lump sum, any other for its years of monthly payments. */
 #define AP_TERM_LUMP_SUM 0u
 
-/* Marks: one for each elapsed month of a contract. */
+/*
+ * Marks: one for each elapsed month of a contract. The first is not 0; directly before a 1 stand at most eleven 0s; after a 2
+ * stand only 2s.
+ */
 #define AP_MARK_MISSED 0u
 #define AP_MARK_PAID 1u
 #define AP_MARK_ENDED 2u
@@ -128,7 +131,8 @@ uint32_t ap_rules(void);
  *   option, payer   as above
  *   term            0 for a lump sum, else years
  *   amount          pension to buy, whole pounds a year
- *   existing_pence  pension that counts towards the cap already, pence a year
+ *   existing_pence  what counts towards the cap already, in one sum, pence a year: Additional Pension that the member has, and what
+ *                   reduction already bought out is worth
  *   last_number     the last quote number that the caller's register holds
  *   out, out_len    where the result goes
  *

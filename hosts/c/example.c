@@ -46,7 +46,10 @@ static const char *const STATUSES[] = {
 /* What fills a buffer before a call. */
 #define UNTOUCHED 0xa5
 
-/* Whether the archive is the one that the header describes. Says so where it is not: then no other function may be called. */
+/*
+ * Whether the archive is the one that the header describes. Says so where it is not, and the program then stops: by another
+ * interface no other call may be made, and by other rules results may differ.
+ */
 static bool archive_fits(void)
 {
     uint32_t interface = ap_interface(), rules = ap_rules();

@@ -60,9 +60,9 @@
 //!
 //! # The archive that is linked
 //!
-//! A host asks [`archive_fits`] once, at its start. Where it is false, no further function of this crate may be called: by another
-//! interface the parameters may be others, and by other rules the results. With an archive from before these two numbers, a host
-//! that asks does not link.
+//! A host asks [`archive_fits`] once, at its start, and does not go on where it is false. By another interface the parameters may
+//! be others, so no further function may be called. By other rules the calls are safe, but results may differ. With an archive
+//! from before these two numbers, a host that asks does not link.
 //!
 //! # What panics
 //!

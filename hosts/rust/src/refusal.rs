@@ -99,7 +99,7 @@ impl fmt::Display for Refusal {
             Refusal::Payer => write!(formatter, "the payer is unknown, or an employer pays by the month"),
             Refusal::NoRate => write!(formatter, "there is no rate for this age and term, or no lump sum for the age now"),
             Refusal::NoUpperRate => write!(formatter, "there is no rate for this age and term at the upper pension age"),
-            Refusal::Amount => write!(formatter, "the amount is not a multiple of £250"),
+            Refusal::Amount => write!(formatter, "the amount is 0 or not a multiple of £250"),
             Refusal::AboveCap => write!(formatter, "the pension would be above the cap"),
             Refusal::NumbersUsedUp => write!(formatter, "the quote numbers are used up"),
             Refusal::TooManyMarks => write!(formatter, "there are more marks than months"),
