@@ -132,7 +132,7 @@ uint32_t ap_rules(void);
  *   term            0 for a lump sum, else years
  *   amount          pension to buy, whole pounds a year
  *   existing_pence  what counts towards the cap already, in one sum, pence a year: Additional Pension that the member has, and what
- *                   reduction already bought out is worth
+ *                   reduction already bought out is worth; what a contract that is still being paid counts for is the host's to say
  *   last_number     the last quote number that the caller's register holds
  *   out, out_len    where the result goes
  *

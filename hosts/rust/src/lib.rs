@@ -135,7 +135,8 @@ pub struct ReductionLimit {
     pub potentials: [Pension; 3],
 }
 
-/// Quotes an election for a member who has `existing` pension (Additional Pension and the value of any reduction buy-out).
+/// Quotes an election for a member who has `existing` pension (Additional Pension and the value of any reduction buy-out). What a
+/// contract that is still being paid counts for is the host's to say.
 /// `last_number` is the last quote number of the host's register; the host stores the one that it gets.
 pub fn quote(terms: &Terms, existing: Pension, last_number: u32) -> Result<Quote, Refusal> {
     let mut result = [0; raw::QUOTE_BYTES];

@@ -1,16 +1,10 @@
 //! The numbers of the C header are the wrapper's.
 
-use additional_pension::*;
-use std::collections::BTreeMap;
+mod contract;
 
-const TERMS: Terms = Terms {
-    age: 50,
-    pension_age: PensionAge { years: 65, months: 0 },
-    option: PensionOption::Personal,
-    payer: Payer::Member,
-    term: 5,
-    amount: 1_000,
-};
+use additional_pension::*;
+use contract::TERMS;
+use std::collections::BTreeMap;
 
 #[test]
 fn numbers_of_the_header() {

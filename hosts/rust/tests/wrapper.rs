@@ -1,15 +1,9 @@
 //! The wrapper's types over the library: figures, refusals and words.
 
-use additional_pension::*;
+mod contract;
 
-const TERMS: Terms = Terms {
-    age: 50,
-    pension_age: PensionAge { years: 65, months: 0 },
-    option: PensionOption::WithDependant,
-    payer: Payer::Member,
-    term: 5,
-    amount: 1_000,
-};
+use additional_pension::*;
+use contract::TERMS;
 
 #[test]
 fn a_quote() {
