@@ -8,4 +8,4 @@ interface_number = 1
 
 -- O25: the last request whose rules are in the part
 abbrev pub rules_number : ℕ
-rules_number = 4
+rules_number = 5

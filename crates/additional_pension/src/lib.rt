@@ -23,7 +23,7 @@ use terms::Terms;
 const INTERFACE: u32 = 1;
 
 // The last request whose rules are in the part.
-const RULES: u32 = 4;
+const RULES: u32 = 5;
 
 // How many bytes the results of Quote take.
 const QUOTE_BYTES: usize = 24;

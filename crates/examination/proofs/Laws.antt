@@ -13,6 +13,7 @@ use Rattle.terms.specs.Rules.{refusal_of}
 use Rattle.election.specs.TermsAccepted.{TermsAccepted}
 use Rattle.election.proofs.Laws.{terms_accepted}
 use Rattle.marks.specs.Lawful.{LawfulFor}
+use Rattle.marks.proofs.KindOf.{limit_most}
 use Rattle.refusals.specs.Places.{RefusedAt, refusing}
 use Rattle.marks.specs.Refusal.{marks_refusal}
 use Rattle.marks.proofs.Term.{marks_unrefused, marks_lawful, lawful_for_take}
@@ -51,7 +52,7 @@ module _ (t : Terms) (ms : List ℕ) where
 
   -- no more marks than the longest term has
   pub settled_few : (settle_refusal t ms).refusal ≡ 0 → length ms ≤ most_marks
-  settled_few z = omega (arith, (settled_marks z).few, (settled_terms z).term_high)
+  settled_few z = omega (arith, (settled_marks z).few, limit_most t.term (settled_terms z).term_high)
 
   -- the first of marks that are not refused are not refused
   pub refusal_take : (settle_refusal t ms).refusal ≡ 0 → (i : ℕ) → (settle_refusal t (take i ms)).refusal ≡ 0

@@ -1,4 +1,4 @@
--- What a caller knows of an examination: whether it refuses, and of what is not refused that only a lump sum has no years.
+-- What a caller knows of an examination: whether it refuses, and of what is not refused that only a lump sum, at status 5 or 6, has no years.
 -- Assumes nothing.
 use mathlib.Core.List.{List}
 use mathlib.Core.Path.{◌≡◌, sym, ap}
@@ -28,4 +28,4 @@ module _ (t : Terms) (ms : List ℕ) where
 
     pub examined_monthly : {e : Examined} → ExaminationOf t ms e → (status_number e.status ≡ 5 → ⊥) → (status_number e.status ≡ 6 → ⊥)
         → 0 < e.election.terms.term
-    examined_monthly told five other = rw told.terms (not_lump open_months t.term ms (rw told.status at other))
+    examined_monthly told five other = rw told.terms (not_lump open_months t.term ms (rw told.status at five) (rw told.status at other))

@@ -3,7 +3,7 @@
 use Rattle.std.specs.Prelude.{List, ◌≡◌, ℕ}
 use Rattle.scheme.specs.Scheme.{open_months}
 use Rattle.terms.specs.declared.Terms.{Terms}
-use Rattle.marks.specs.Counts.{paid_months}
+use Rattle.marks.specs.Counts.{payments_of}
 use Rattle.marks.specs.Numbers.{status_number}
 use Rattle.marks.specs.Status.{status_of}
 use Rattle.examination.specs.declared.Examined.{Examined}
@@ -13,4 +13,4 @@ use Rattle.examination.specs.declared.Examined.{Examined}
 pub record ExaminationOf (t : Terms) (marks : List ℕ) (e : Examined) : Type 0 where
   pub terms : e.election.terms ≡ t
   pub status : status_number e.status ≡ status_of open_months t.term marks
-  pub paid : e.paid_months ≡ paid_months marks
+  pub paid : e.payments ≡ payments_of t.term marks

@@ -17,7 +17,7 @@ use terms::Terms;
 pub struct Examined {
     pub election: Election,
     pub status: Status,
-    pub paid_months: usize,
+    pub payments: usize,
 }
 
 // The terms are looked at first, as a quote with nothing existing; then the marks.
@@ -31,6 +31,6 @@ pub fn examine(t: Terms, marks: &[u8]) -> Result<Examined, Refused>
     Ok(Examined {
         election,
         status: marks::status(t.term, reading),
-        paid_months: reading.paid_months,
+        payments: marks::payments(t.term, reading),
     })
 }

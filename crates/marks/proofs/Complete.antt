@@ -1,6 +1,6 @@
 -- A contract is complete only where every month of its term is paid.
 -- Assumes nothing.
-use mathlib.Core.Bool.{true}
+use mathlib.Core.Bool.{Bool, true}
 use mathlib.Core.List.{List, [], ◌∷◌}
 use mathlib.Core.Path.{◌≡◌, refl, ap, ◌∙◌}
 use Prim.Native.Nat.{ℕ, ◌*◌, ◌<◌}
@@ -12,7 +12,8 @@ use Rattle.common.specs.Calendar.{months_in_year}
 use Rattle.scheme.specs.Scheme.{ceased_from}
 use Rattle.common.proofs.Choice.{either, not_first}
 use Rattle.common.proofs.Tests.{by_test, never}
-use Rattle.marks.specs.Counts.{are_all_paid, paid_through}
+use Rattle.common.specs.Choice.{pick}
+use Rattle.marks.specs.Counts.{are_all_paid, has_ended, paid_through}
 use Rattle.marks.specs.Status.{stopped_of, status_of}
 use Rattle.marks.proofs.StatusOf.{test0, test1, test2, test3}
 
@@ -34,10 +35,13 @@ stopped_other : (b : ℕ) → stopped_of b ≡ 3 → ⊥
 unfolding stopped_of
 stopped_other b = either (λ (n : ℕ). n ≡ 3 → ⊥) (leb ceased_from b) {x = 4} {y = 5} (λ z. omega arith) (λ z. omega arith)
 
+lump_sum_other : (ended : Bool) → ◌≡◌ {A = ℕ} (pick ended 5 6) 3 → ⊥
+lump_sum_other ended = either (λ (n : ℕ). n ≡ 3 → ⊥) ended {x = 5} {y = 6} (λ z. omega arith) (λ z. omega arith)
+
 pub complete_marks : (open_months term : ℕ) (ms : List ℕ) → status_of open_months term ms ≡ 3 → (0 < term) × (ms ≡ replicate (months_in_year * term) 1)
 unfolding status_of
 complete_marks open_months term ms e =
-    let after6 = not_first (λ (n : ℕ). n ≡ 3) (eqb term 0) 6 _ (λ z. omega arith) e in
+    let after6 = not_first (λ (n : ℕ). n ≡ 3) (eqb term 0) (pick (has_ended ms) 5 6) _ (lump_sum_other (has_ended ms)) e in
     let after0 = not_first (λ (n : ℕ). n ≡ 3) (test0 open_months term ms) 0 _ (λ z. omega arith) after6.1 in
     let after1 = not_first (λ (n : ℕ). n ≡ 3) (test1 open_months term ms) 1 _ (λ z. omega arith) after0.1 in
     let after2 = not_first (λ (n : ℕ). n ≡ 3) (test2 open_months term ms) 2 _ (λ z. omega arith) after1.1 in

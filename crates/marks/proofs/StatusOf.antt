@@ -1,24 +1,27 @@
 -- The status from the reading of lawful marks is the status of the marks; and what a status tells: its range, b of a refunded contract,
 -- that a term paid in full is complete and a contract without status 6 monthly.
 -- Assumes nothing.
-use mathlib.Core.Bool.{Bool, true, ◌&&◌}
+use mathlib.Core.Bool.{Bool, true, false, ◌&&◌}
 use mathlib.Core.List.{List}
-use mathlib.Core.Path.{◌≡◌, refl, sym}
+use mathlib.Core.Path.{◌≡◌, refl, sym, ◌∙◌}
 use Prim.Native.Nat.{ℕ, zero, suc, ◌*◌, ◌≤◌, ◌<◌}
 use native.Mathlib.Omega.{arith}
-use borrow.Author.Tests.{lt-ltb, le-ltb, le-leb, leb-true, leb-false, eq-eqb, ne_eqb}
+use borrow.Author.Tests.{lt-ltb, le-ltb, le-leb, leb-true, leb-false, eq-eqb, ne_eqb, eqb-true, eqb-false}
 use lib.Dec.{ltb, leb, eqb}
 use lib.ListN.{length, replicate, length-replicate}
 use Rattle.common.specs.Choice.{pick}
 use Rattle.common.specs.Calendar.{months_in_year}
 use Rattle.scheme.specs.Scheme.{ceased_from}
-use Rattle.marks.specs.Counts.{last_or, are_all_paid, paid_through, final_gap}
+use Rattle.marks.specs.Kind.{kind_of}
+use Rattle.marks.specs.Counts.{last_or, are_all_paid, has_ended, paid_through, final_gap, payments_of}
 use Rattle.marks.specs.Lawful.{LawfulFor}
 use Rattle.marks.specs.Status.{stopped_of, status_of}
-use Rattle.marks.specs.Reading.{marks_reading, status_from}
+use Rattle.marks.specs.Reading.{marks_reading, status_from, payments_from}
 use Rattle.common.proofs.Choice.{either, not_first}
 use Rattle.common.proofs.Tests.{by_test}
+use Rattle.marks.proofs.KindOf.{monthly_limit}
 use Rattle.marks.proofs.Counts.{all_paid}
+use Rattle.marks.proofs.Lawful.{ended_by_last}
 use Rattle.marks.proofs.Term.{marks_counts}
 
 -- missed months at the end that leave a contract open, as the code tests for them and as the rule is written
@@ -32,14 +35,24 @@ unfolding status_from status_of
 status_lawful open_months term ms h =
     let months = months_in_year * term in
     let count = length ms in
+    by_test (eqb term 0)
+    (λ z. rw (marks_counts open_months term ms h, z, ended_by_last (kind_of term) open_months ms h.lawful))
+    (λ some.
+    let few : count ≤ months = omega (arith, h.few, monthly_limit term (omega (arith, eqb-false term 0 some))) in
     by_test (leb months count)
     (λ t.
-    let over : count ≡ months = omega (arith, h.few, leb-true months count t) in
-    rw (marks_counts open_months term ms h, t, le-ltb count months (omega arith), eq-eqb count months over, sym over, all_paid ms))
+    let over : count ≡ months = omega (arith, few, leb-true months count t) in
+    rw (marks_counts open_months term ms h, some, t, le-ltb count months (omega arith), eq-eqb count months over, sym over, all_paid ms))
     (λ t.
     let running : count < months = leb-false months count t in
-    rw (marks_counts open_months term ms h, t, lt-ltb count months running, ne_eqb count months (λ p. omega arith))
-    (rw (open_gap open_months (final_gap ms) (stopped_of (paid_through ms)))))
+    rw (marks_counts open_months term ms h, some, t, lt-ltb count months running, ne_eqb count months (λ p. omega arith))
+    (rw (open_gap open_months (final_gap ms) (stopped_of (paid_through ms))))))
+
+-- and so are the payments
+pub payments_lawful : (open_months term : ℕ) (ms : List ℕ) → LawfulFor open_months term ms
+    → payments_from term (marks_reading open_months term ms) ≡ payments_of term ms
+unfolding payments_from payments_of
+payments_lawful open_months term ms h = rw (marks_counts open_months term ms h)
 
 module _ (open_months term : ℕ) (ms : List ℕ) where
   -- the tests of `status_of` after the first, by the status that each gives
@@ -69,12 +82,12 @@ module _ (open_months term : ℕ) (ms : List ℕ) where
       (either (λ (n : ℕ). n ≤ 5) test3 {x = 3} (omega arith)
       (either (λ (n : ℕ). n ≤ 5) test4 {x = 4} {y = 5} (omega arith) (omega arith))))))
 
-  -- a refunded contract was paid for less than a year
-  pub refunded_early : status_of open_months term ms ≡ 5 → paid_through ms < ceased_from
+  -- a monthly contract that is refunded was paid for less than a year
+  pub refunded_early : 0 < term → status_of open_months term ms ≡ 5 → paid_through ms < ceased_from
   unfolding status_of stopped_of
-  refunded_early e =
-      let after6 = not_first (λ (n : ℕ). n ≡ 5) (eqb term 0) 6 _ (λ z. omega arith) e in
-      let after0 = not_first (λ (n : ℕ). n ≡ 5) test0 0 _ (λ z. omega arith) after6.1 in
+  refunded_early h e =
+      let monthly = rw (ne_eqb term 0 (λ z. omega arith)) at e in
+      let after0 = not_first (λ (n : ℕ). n ≡ 5) test0 0 _ (λ z. omega arith) monthly in
       let after1 = not_first (λ (n : ℕ). n ≡ 5) test1 1 _ (λ z. omega arith) after0.1 in
       let after2 = not_first (λ (n : ℕ). n ≡ 5) test2 2 _ (λ z. omega arith) after1.1 in
       let after3 = not_first (λ (n : ℕ). n ≡ 5) test3 3 _ (λ z. omega arith) after2.1 in
@@ -99,13 +112,25 @@ full_status open_months term h =
       every_paid (months_in_year * term),
     )
 
--- a contract without status 6 is monthly
-pub not_lump : (open_months term : ℕ) (ms : List ℕ) → (status_of open_months term ms ≡ 6 → ⊥) → 0 < term
-unfolding status_of
-not_lump open_months zero ms h = absurd (h refl)
-not_lump open_months (suc term) ms h = omega arith
+-- the status of a lump sum: refunded where there is a 2
+module _ (open_months term : ℕ) (ms : List ℕ) (z : term ≡ 0) where
+  lump_sum_status : status_of open_months term ms ≡ pick (has_ended ms) 5 6
+  unfolding status_of
+  lump_sum_status = rw (eq-eqb term 0 z)
+
+  pub ended_status : has_ended ms ≡ true → status_of open_months term ms ≡ 5
+  ended_status e = lump_sum_status ∙ rw e
+
+  pub running_status : has_ended ms ≡ false → status_of open_months term ms ≡ 6
+  running_status e = lump_sum_status ∙ rw e
+
+-- a contract with neither of these is monthly
+pub not_lump : (open_months term : ℕ) (ms : List ℕ) → (status_of open_months term ms ≡ 5 → ⊥) → (status_of open_months term ms ≡ 6 → ⊥) → 0 < term
+not_lump open_months zero ms five six =
+    by_test (has_ended ms) (λ e. absurd (five (ended_status open_months 0 ms refl e))) (λ e. absurd (six (running_status open_months 0 ms refl e)))
+not_lump open_months (suc term) ms five six = omega arith
 
 pub status_most : (open_months term : ℕ) (ms : List ℕ) → status_of open_months term ms ≤ 6
-unfolding status_of
-status_most open_months zero ms = omega arith
+status_most open_months zero ms =
+    by_test (has_ended ms) (λ e. omega (arith, ended_status open_months 0 ms refl e)) (λ e. omega (arith, running_status open_months 0 ms refl e))
 status_most open_months (suc term) ms = omega (arith, monthly_status open_months (suc term) ms (omega arith))

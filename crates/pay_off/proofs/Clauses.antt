@@ -18,7 +18,9 @@ use Rattle.terms.proofs.Laws.{upper_there}
 use Rattle.terms.specs.Printed.{LacksLumpSum}
 use Rattle.terms.proofs.Printed.{upper_missing, missing_upper_lem}
 use Rattle.election.specs.TermsAccepted.{TermsAccepted}
-use Rattle.marks.specs.Status.{status_of}
+use Rattle.scheme.specs.Scheme.{open_months}
+use Rattle.marks.specs.Counts.{has_ended}
+use Rattle.marks.proofs.StatusOf.{ended_status, running_status}
 use Rattle.examination.proofs.Laws.{settled_terms}
 use Rattle.settlement.specs.Settle.{SettleNumbers, settle_of}
 use Rattle.settlement.proofs.Laws.{settle_settled, settle_refusal_lem}
@@ -139,11 +141,11 @@ module _ (t : Terms) (ms : List ℕ) (age_now increase : ℕ) where
   unfolding contract_refusal
   sixteen z s = decided_number t ms age_now increase z ∙ rw (nothing_said settled.status s)
 
-  -- a lump sum has status 6
-  lump_status : settled.refusal ≡ 0 → t.term ≡ 0 → settled.status ≡ 6
-  unfolding status_of
+  -- a lump sum has status 5 or 6
+  lump_status : settled.refusal ≡ 0 → t.term ≡ 0 → (settled.status ≡ 5) ⊎ (settled.status ≡ 6)
   lump_status z lump =
-      ap (λ (n : SettleNumbers). n.status) (settle_settled t ms (sym (settle_refusal_lem t ms) ∙ z)) ∙ rw lump
+      let is = ap (λ (n : SettleNumbers). n.status) (settle_settled t ms (sym (settle_refusal_lem t ms) ∙ z)) in
+      by_test (has_ended ms) (λ e. inl (is ∙ ended_status open_months t.term ms lump e)) (λ e. inr (is ∙ running_status open_months t.term ms lump e))
 
   pub pay_off_refusals : PayOffRefusals t ms age_now increase answer
   unfolding contract_refusal
@@ -154,7 +156,7 @@ module _ (t : Terms) (ms : List ℕ) (age_now increase : ℕ) where
             (ap (λ (n : PayOffNumbers). n.refusal) whole, ap (λ (n : PayOffNumbers). n.place) whole);
         no_place = no_place;
         sixteen = sixteen;
-        lump_sum = λ z lump. sixteen z (inr (inr (lump_status z lump)));
+        lump_sum = λ z lump. sixteen z (inr (lump_status z lump));
         seventeen = λ z fit out.
             decided_number t ms age_now increase z ∙ rw (payable_fits settled.status fit, increase_out out);
         five = λ z fit range lacks.

@@ -8,11 +8,11 @@ use native.Mathlib.Omega.{arith}
 use borrow.Author.Tests.{lt-ltb, eq-eqb, ne_eqb}
 use lib.ListN.{length, get_or}
 use lib.Seq.{length-take-le, set-get_or}
-use Rattle.common.specs.Calendar.{months_in_year}
 use Rattle.common.proofs.Tests.{by_test}
 use Rattle.scheme.specs.Scheme.{open_months, most_marks}
 use Rattle.terms.specs.declared.Terms.{Terms}
 use Rattle.marks.specs.Reading.{ReadSoFar, count_up, step_by, marks_reading}
+use Rattle.marks.specs.Kind.{kind_of, mark_limit}
 use Rattle.marks.specs.Refusal.{marks_refusal}
 use Rattle.marks.proofs.Lists.{length_last}
 use Rattle.marks.proofs.Term.{too_many_marks, marks_number, marks_place, marks_last}
@@ -77,12 +77,12 @@ module _ (c : Contract) (m : ℕ) where
       )
 
   module _ (full : length c.marks ≡ most_marks) where
-    pub over_answer : bad_record c ≡ false → months_in_year * c.terms.term ≤ c.count → post_of c m ≡ posted_at 10 0
+    pub over_answer : bad_record c ≡ false → mark_limit c.terms.term ≤ c.count → post_of c m ≡ posted_at 10 0
     over_answer b h =
         marks_answer b
         ∙ rw (too_many_marks open_months c.terms.term marks_with (omega (arith, length_last (used_marks c) m, used_length c full b)))
 
-    pub read_answer : bad_record c ≡ false → c.count < months_in_year * c.terms.term
+    pub read_answer : bad_record c ≡ false → c.count < mark_limit c.terms.term
         → (r : ReadSoFar) → r ≡ step_by count_up (marks_reading open_months c.terms.term (used_marks c)) m
         → posted_at r.refusal r.place ≡ post_of c m
     read_answer b h r is =
@@ -92,7 +92,7 @@ module _ (c : Contract) (m : ℕ) where
         (rw (marks_number open_months c.terms.term marks_with, marks_place open_months c.terms.term marks_with) (sym (marks_answer b)))
 
     -- a refused reading stays refused, whatever mark comes after it
-    pub early_answer : bad_record c ≡ false → c.count < months_in_year * c.terms.term
+    pub early_answer : bad_record c ≡ false → c.count < mark_limit c.terms.term
         → (r : ReadSoFar) → r ≡ marks_reading open_months c.terms.term (used_marks c) → 0 < r.refusal
         → posted_at r.refusal r.place ≡ post_of c m
     unfolding step_by

@@ -8,7 +8,6 @@ ghost use Rattle.refusals.specs.Places.{refused_in};
 ghost use Rattle.records.specs.Post.{post_of, posted_record};
 ghost use Rattle.records.specs.History.{fresh_record};
 
-use common::MONTHS_IN_YEAR;
 use money::PensionPence;
 use refusals::{Refusal, Refused};
 use scheme::MOST_MARKS;
@@ -61,7 +60,7 @@ fn check_posting(c: Contract, mark: u8) -> Result<(), Refused>
 {
     check_record(c)?;
     let term = c.terms.term;
-    if c.count >= MONTHS_IN_YEAR as usize * term as usize {
+    if c.count >= marks::mark_limit(term) {
         return Err(Refusal::TooManyMarks.into());
     }
     let (used, _) = c.marks.split_at(c.count);

@@ -9,7 +9,8 @@ use Rattle.rates.specs.Rates.{table_of, cell_of, rate_by, rate_of, lump_column, 
 use Rattle.terms.specs.Rate.{rate_for, table_rate}
 use Rattle.terms.specs.Rules.{wrong_option, wrong_pension_age, wrong_term, wrong_payer, no_rate, no_upper_rate, wrong_amount, above_cap, refusal_of}
 use Rattle.election.specs.ContributionOf.{contribution_at, contribution_in, contribution_of}
-use Rattle.marks.specs.Counts.{last_or, are_all_paid, paid_months, paid_through, final_gap}
+use Rattle.marks.specs.Kind.{kind_of, mark_limit}
+use Rattle.marks.specs.Counts.{last_or, are_all_paid, paid_months, paid_through, final_gap, payments_of}
 use Rattle.marks.specs.Refusal.{mark_refusal, first_refusal, marks_refusal}
 use Rattle.marks.specs.Status.{stopped_of, status_of}
 use Rattle.years.specs.Years.{year_credit, year_credits, month_value}
@@ -24,5 +25,5 @@ use Rattle.rows.specs.Rows.{Row}
 use Rattle.rows.specs.PayOffRows.{step_rows, half_rows, contract_rows, refused_rows, pay_off_rows}
 
 pub all_pay_off_rows : map (λ (r : Row). r.found) pay_off_rows ≡ map (λ (r : Row). r.stated) pay_off_rows
-unfolding pay_off_rows step_rows half_rows contract_rows refused_rows pay_off_of contract_pay_off contract_refusal nothing_to_pay_off wrong_increase no_lump_sum_now increased_by cost_of lump_rate_of lump_column settle_of settle_refusal credit_at_status refund_at_status credit_of credit_in credit_over sum_over_runs runs_in runs_from run_from month_value year_credits year_credit tabulate marks_refusal first_refusal mark_refusal status_of stopped_of last_or are_all_paid paid_months paid_through final_gap contribution_of contribution_in contribution_at table_rate rate_for rate_of rate_by cell_of table_of combine blend nearest half_even nearer off_by half_up refusal_of wrong_option wrong_pension_age wrong_term wrong_payer no_rate no_upper_rate wrong_amount above_cap
+unfolding pay_off_rows step_rows half_rows contract_rows refused_rows pay_off_of contract_pay_off contract_refusal nothing_to_pay_off wrong_increase no_lump_sum_now increased_by cost_of lump_rate_of lump_column settle_of settle_refusal credit_at_status refund_at_status credit_of credit_in credit_over sum_over_runs runs_in runs_from run_from month_value year_credits year_credit tabulate marks_refusal mark_limit kind_of first_refusal mark_refusal status_of stopped_of last_or are_all_paid paid_months paid_through final_gap payments_of contribution_of contribution_in contribution_at table_rate rate_for rate_of rate_by cell_of table_of combine blend nearest half_even nearer off_by half_up refusal_of wrong_option wrong_pension_age wrong_term wrong_payer no_rate no_upper_rate wrong_amount above_cap
 all_pay_off_rows = refl

@@ -5,6 +5,7 @@ use mathlib.Core.Path.{◌≡◌, refl, sym, ap, subst, ◌∙◌}
 use Prim.Native.Nat.{ℕ, suc, ◌+◌, ◌≤◌, ◌<◌, ◌^◌}
 use native.Mathlib.Numerals.{add-one}
 use native.Mathlib.Omega.{arith}
+use lib.Seq.{take-suc}
 use borrow.Author.Tests.{eq-eqb, ne_eqb, eqb-true, eqb-false, ltb-true}
 use lib.Dec.{eqb, ltb}
 use lib.ListN.{length, length-take, take, get_or}
@@ -20,7 +21,9 @@ use Rattle.scheme.specs.Scheme.{open_months, pounds_in_pence}
 use Rattle.terms.specs.declared.Terms.{Terms}
 use Rattle.election.specs.TermsAccepted.{TermsAccepted}
 use Rattle.election.proofs.Laws.{upper_rate_is}
-use Rattle.marks.specs.Reading.{ReadSoFar, next_refusal_of, count_mark, count_up, step_by, read_on, marks_reading}
+use Rattle.marks.specs.declared.kinds.Kind.{Kind}
+use Rattle.marks.proofs.KindOf.{at_once, by_the_month}
+use Rattle.marks.specs.Reading.{ReadSoFar, start_of, next_refusal_of, count_mark, count_up, step_by, read_on, marks_reading}
 use Rattle.marks.specs.Status.{status_of}
 use Rattle.marks.proofs.Term.{few_read, marks_take, marks_counts}
 use Rattle.marks.proofs.StatusOf.{status_lawful}
@@ -38,7 +41,14 @@ use Rattle.settlement.specs.Settle.{SettleNumbers}
 use Rattle.settlement.proofs.Laws.{settle_settled}
 use Rattle.settlement.proofs.Purchases.{upper_rate_asked, no_upper_rate_asked, sound, credit_fits, credit_combined}
 use Rattle.settlement.proofs.Demand.{credit_by_status}
-use Rattle.schedule.specs.Schedule.{entry_of}
+use Rattle.marks.specs.declared.kinds.Kind.TheVariants.{AtOnce}
+use Rattle.marks.specs.Lawful.{Lawful}
+use Rattle.marks.specs.Counts.{last_or, has_ended}
+use Rattle.marks.proofs.Counts.{last_is}
+use Rattle.marks.proofs.Lawful.{ended_by_last}
+use Rattle.settlement.proofs.LumpSum.{ended_numbers, running_numbers}
+use Rattle.common.proofs.Written.{Written, written_list}
+use Rattle.schedule.specs.Schedule.{entry_of, filled_of}
 use Rattle.schedule.specs.YearRows.{upper_years}
 use Rattle.schedule.specs.Walk.{WalkSoFar, walk_begun, after_mark_in, after_marks_in, step_walk, walk_of, combined_in, held_of, Holdable}
 use Rattle.schedule.specs.declared.YearRows.{YearRows}
@@ -149,7 +159,12 @@ module _ (s : YearRows) (marks : List ℕ) (none : (settle_refusal s.election.te
 
   pub walk_starts : walk_begun ≡ walk_of s (take 0 marks)
   unfolding read_on after_marks
-  walk_starts = same_walk (sym (few_read open_months t.term (take 0 marks) (omega arith))) refl (upper_begun s.upper)
+  walk_starts =
+      same_walk
+      (ap (λ (k : Kind). start_of k open_months) (sym (by_the_month t.term s.monthly))
+      ∙ sym (few_read open_months t.term (take 0 marks) (omega arith)))
+      refl
+      (upper_begun s.upper)
 
   -- one step of the walk is one mark more
   pub walk_more : (i : ℕ) → i < length marks → step_walk s (walk_of s (take i marks)) (get_or marks i 0) ≡ walk_of s (take (i + 1) marks)
@@ -196,3 +211,30 @@ module _ (s : YearRows) (marks : List ℕ) (none : (settle_refusal s.election.te
         runs_so_far t s.lower s.upper (take (suc i) marks) s.lower_is s.upper_is,
       )
       (sym (entry_is i))
+
+-- an entry written for each mark
+pub all_written : (t : Terms) (marks old out : List ℕ) {i : ℕ} → length marks ≤ length old → i ≡ length marks → Written (entry_of t marks) old out i
+    → out ≡ filled_of t marks old
+unfolding filled_of
+all_written t marks old out few e w = written_list (entry_of t marks) old out (length marks) few (subst (Written (entry_of t marks) old out) e w)
+
+-- The entries of a lump sum.
+
+-- a 2 that stands among the first marks stands last of them, since only 2s follow it
+last_ended : (ms : List ℕ) (i : ℕ) → i < length ms → Lawful AtOnce open_months (take (suc i) ms) → has_ended (take (suc i) ms) ≡ eqb (get_or ms i 0) 2
+last_ended ms i inside law =
+    sym (ended_by_last AtOnce open_months (take (suc i) ms) law)
+    ∙ ap (λ (n : ℕ). eqb n 2) (ap (last_or 0) (take-suc ms i 0 inside) ∙ last_is 0 (take i ms) (get_or ms i 0))
+
+pub lump_sum_entry : (t : Terms) (marks : List ℕ) (i : ℕ) → t.term ≡ 0 → (settle_refusal t marks).refusal ≡ 0 → i < length marks
+    → entry_of t marks i ≡ pick (eqb (get_or marks i 0) 2) 0 (pounds_in_pence t.amount)
+unfolding entry_of
+lump_sum_entry t marks i z none inside =
+    let first = take (suc i) marks in
+    let unrefused = refusal_take t marks none (suc i) in
+    let law : Lawful AtOnce open_months first = rw (at_once t.term z) at (settled_marks t first unrefused).lawful in
+    let last = last_ended marks i inside law in
+    ap (λ (n : SettleNumbers). n.credit) (settle_settled t first unrefused)
+    ∙ by_test (has_ended first)
+    (λ e. ap (λ (n : SettleNumbers). n.credit) (ended_numbers t first z e) ∙ rw (sym last ∙ e))
+    (λ e. ap (λ (n : SettleNumbers). n.credit) (running_numbers t first z e) ∙ rw (sym last ∙ e))

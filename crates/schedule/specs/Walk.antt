@@ -5,6 +5,7 @@ use Rattle.std.specs.Prelude.{Option, Some, None, List, ◌≡◌, ℕ, ◌<◌,
 use Rattle.common.specs.Choice.{pick}
 use Rattle.rounding.specs.Nearest.{nearest, combine}
 use Rattle.scheme.specs.Scheme.{open_months}
+use Rattle.marks.specs.declared.kinds.Kind.TheVariants.{Monthly}
 use Rattle.marks.specs.Reading.{ReadSoFar, as_read, start_of, count_up, count_mark, marks_reading, status_from}
 use Rattle.credit.specs.declared.CreditSoFar.{CreditSoFar}
 use Rattle.credit.specs.SoFar.{nothing_yet, credit_at, after_mark, after_marks}
@@ -21,9 +22,9 @@ pub record WalkSoFar : Type 0 where
 abbrev pub as_walked : Walk → WalkSoFar
 as_walked w = record { reading = as_read w.reading; lower = w.lower; upper = w.upper }
 
--- before the first mark
+-- before the first mark of a monthly contract
 abbrev pub walk_begun : WalkSoFar
-walk_begun = record { reading = start_of open_months; lower = nothing_yet; upper = nothing_yet }
+walk_begun = record { reading = start_of Monthly open_months; lower = nothing_yet; upper = nothing_yet }
 
 -- a table's state after one mark more, and after all of some marks; nothing is earned where there is no table
 abbrev pub after_mark_in : Option (List ℕ) → CreditSoFar → ℕ → CreditSoFar

@@ -1,16 +1,18 @@
 // A credit for each elapsed month: what a member held after it.
 #![tactic(auto)]
 
-ghost use Rattle.std.specs.Prelude.{◌≡◌, ◌*◌, ◌≤◌, ◌<◌, ◌^◌, length};
+ghost use Rattle.std.specs.Prelude.{◌≡◌, ◌*◌, ◌≤◌, ◌<◌, ◌^◌, length, eqb};
+ghost use Rattle.common.specs.Choice.{pick};
 ghost use Rattle.rounding.specs.Nearest.{nearest};
 ghost use Rattle.years.specs.Years.{year_credits};
 ghost use Rattle.years.specs.Elected.{purchase_in};
 ghost use Rattle.schedule.specs.YearRows.{upper_years};
-ghost use Rattle.schedule.specs.Schedule.{numbers_of_schedule, schedule_of};
+ghost use Rattle.examination.specs.Refusal.{settle_refusal};
+ghost use Rattle.schedule.specs.Schedule.{filled_of, numbers_of_schedule, schedule_of};
 
 use credit::CreditSoFar;
 use election::Election;
-use marks::{Reading, Status};
+use marks::{Kind, Reading, Status};
 use money::{Pence, PensionPence};
 use refusals::{Refusal, Refused};
 use scheme::ROW_PLACES;
@@ -56,7 +58,7 @@ impl Walk {
         ensures { as_walked result ≡ walk_begun }
     {
         Walk {
-            reading: marks::start(scheme::OPEN_MONTHS),
+            reading: marks::start(Kind::Monthly, scheme::OPEN_MONTHS),
             lower: credit::nothing_yet(),
             upper: credit::nothing_yet(),
         }
@@ -139,6 +141,30 @@ impl YearRows {
     }
 }
 
+// What is held of a lump sum after a mark that is lawful there: its amount, or nothing once the member has left.
+#[tactic(auto, using(common::proofs::Tests::tests))]
+fn lump_sum_held(amount: u32, mark: u8) -> u32
+    ensures { result ≡ pick (eqb mark 2) 0 amount }
+{
+    if mark == 2 {
+        return 0;
+    }
+    amount
+}
+
+// An entry for each mark of a lump sum.
+fn fill_lump_sum(t: Terms, marks: &[u8], out: &mut [u32])
+    requires lump_sum { t.term ≡ 0 }
+    requires none_refused { (settle_refusal t marks.now).refusal ≡ 0 }
+    requires marks_in_bounds { length marks.now ≤ length out.old }
+    ensures { out.new ≡ filled_of t marks.now out.old }
+{
+    let amount = PensionPence::of_pounds(t.amount).0 as u32;
+    for (i, mark) in marks.iter().enumerate() {
+        out[i] = lump_sum_held(amount, *mark);
+    }
+}
+
 // Writes the credit after each mark to the first entries of the lent list. A refusal writes nothing.
 pub fn schedule(t: Terms, marks: &[u8], out: &mut [u32]) -> Result<(), Refused>
     ensures { numbers_of_schedule result out.new ≡ schedule_of t marks.now out.old }
@@ -147,10 +173,10 @@ pub fn schedule(t: Terms, marks: &[u8], out: &mut [u32]) -> Result<(), Refused>
     if out.len() < marks.len() {
         return Err(Refusal::WrongLength.into());
     }
-    // Nothing to write. A contract with a mark is monthly, so from here on it has tables.
-    if marks.is_empty() {
-        return Ok(());
+    if t.term == 0 {
+        fill_lump_sum(t, marks, out);
+    } else {
+        YearRows::of(examined.election).fill(marks, out);
     }
-    YearRows::of(examined.election).fill(marks, out);
     Ok(())
 }

@@ -1,4 +1,4 @@
--- A5, T5 to T7, R3, C5, M3, M12 and O11: the numbers of the scheme by name.
+-- A5, T5 to T7, R3, C5, M3, M12, M15 and O11: the numbers of the scheme by name.
 -- Assumes nothing.
 use Rattle.std.specs.Prelude.{ℕ, suc, ◌*◌}
 use Rattle.common.specs.Calendar.{months_in_year}
@@ -39,6 +39,10 @@ open_months = 11
 -- M12: the months up to the last paid one from which on a contract that has stopped is ceased and not refunded
 abbrev pub ceased_from : ℕ
 ceased_from = 12
+
+-- M15: the most marks of a lump sum, those of the first year: it goes back to a member who leaves within it
+abbrev pub lump_sum_marks : ℕ
+lump_sum_marks = months_in_year
 
 -- R3: the print rule of the monthly tables: the first age, and the years that at least lie between the end of the term and the pension age
 abbrev pub first_age : ℕ

@@ -21,3 +21,6 @@ pub const OPEN_MONTHS: usize = 11;
 
 // The months up to the last paid one from which on a contract that has stopped is ceased and not refunded.
 pub const CEASED_FROM: usize = 12;
+
+// The most marks of a lump sum, those of the first year: it goes back to a member who leaves within it.
+pub const LUMP_SUM_MARKS: usize = 12;

@@ -4,7 +4,7 @@ use mathlib.Core.Bool.{Bool, true, false}
 use mathlib.Core.List.{List}
 use mathlib.Core.Logic.{⊎_elim}
 use mathlib.Core.Path.{◌≡◌, refl, sym, ◌∙◌}
-use Prim.Native.Nat.{ℕ, ◌*◌, ◌-◌, ◌≤◌}
+use Prim.Native.Nat.{ℕ, ◌*◌, ◌-◌, ◌≤◌, ◌<◌}
 use native.Mathlib.Decide.{ℕ_discrete, dec_le}
 use native.Mathlib.Nat.{mul-le-mul}
 use native.Mathlib.Omega.{arith}
@@ -12,18 +12,19 @@ use borrow.Author.Tests.{eqb-true, eqb-false}
 use lib.Dec.{eqb}
 use lib.ListN.{length}
 use Rattle.common.specs.Choice.{pick}
-use Rattle.common.specs.Calendar.{months_in_year}
-use Rattle.scheme.specs.Scheme.{pounds_in_pence, longest_term, most_marks, open_months, ceased_from}
+use Rattle.scheme.specs.Scheme.{pounds_in_pence, most_marks, open_months, ceased_from}
 use Rattle.scheme.specs.Bounds.{most_monthly_contribution, most_refund, last_settle_refusal}
 use Rattle.terms.specs.declared.Terms.{Terms}
 use Rattle.terms.specs.Rules.{refusal_of}
 use Rattle.election.specs.ContributionOf.{contribution_of}
 use Rattle.terms.proofs.Laws.{refusal_most}
 use Rattle.election.proofs.Laws.{terms_accepted, contribution_most, monthly_most, contribution_least}
-use Rattle.marks.specs.Counts.{paid_months}
+use Rattle.marks.specs.Kind.{mark_limit}
+use Rattle.marks.specs.Counts.{paid_months, payments_of}
 use Rattle.refusals.specs.Places.{RefusedAt}
 use Rattle.marks.specs.Refusal.{marks_refusal}
 use Rattle.marks.specs.Status.{status_of}
+use Rattle.marks.proofs.KindOf.{limit_most}
 use Rattle.marks.proofs.StatusOf.{not_lump, status_most, refunded_early}
 use Rattle.marks.proofs.Term.{too_many_marks, few_refused, marks_unrefused, marks_lawful, marks_counts, marks_within}
 use Rattle.examination.specs.Refusal.{settle_refusal}
@@ -41,12 +42,12 @@ module _ (t : Terms) (ms : List ℕ) where
 
   -- of the marks under accepted terms
   by_marks : refusal_of t 0 ≡ 0 → Bounded (marks_refusal open_months t.term ms)
-  by_marks pass = go (dec_le (length ms) (months_in_year * t.term)) (ℕ_discrete (marks_refusal open_months t.term ms).refusal 0)
+  by_marks pass = go (dec_le (length ms) (mark_limit t.term)) (ℕ_discrete (marks_refusal open_months t.term ms).refusal 0)
     where
-      high : t.term ≤ longest_term
-      high = (terms_accepted t 0 pass).term_high
+      high : mark_limit t.term ≤ most_marks
+      high = limit_most t.term (terms_accepted t 0 pass).term_high
 
-      go : Dec (length ms ≤ months_in_year * t.term) → Dec ((marks_refusal open_months t.term ms).refusal ≡ 0)
+      go : Dec (length ms ≤ mark_limit t.term) → Dec ((marks_refusal open_months t.term ms).refusal ≡ 0)
           → Bounded (marks_refusal open_months t.term ms)
       go few (yes z) = rw (marks_unrefused open_months t.term ms (marks_lawful open_months t.term ms z)) (omega arith)
       go (no many) (no h) = rw (too_many_marks open_months t.term ms (omega arith)) (omega arith)
@@ -64,12 +65,13 @@ module _ (t : Terms) (ms : List ℕ) where
   -- no credit passes the amount
   pub credit_amount : (settle_refusal t ms).refusal ≡ 0 → credit_at_status t ms (status_of open_months t.term ms) ≤ pounds_in_pence t.amount
   unfolding credit_at_status
-  credit_amount none = go (eqb (status_of open_months t.term ms) 5) (eqb (status_of open_months t.term ms) 6) refl
+  credit_amount none = go (eqb (status_of open_months t.term ms) 5) (eqb (status_of open_months t.term ms) 6) refl refl
     where
-      go : (a b : Bool) → eqb (status_of open_months t.term ms) 6 ≡ b → pick a 0 (pick b (pounds_in_pence t.amount) (credit_of t ms)) ≤ pounds_in_pence t.amount
-      go true b e = omega arith
-      go false true e = omega arith
-      go false false e = worked_most t ms none (not_lump open_months t.term ms (eqb-false _ _ e))
+      go : (a b : Bool) → eqb (status_of open_months t.term ms) 5 ≡ a → eqb (status_of open_months t.term ms) 6 ≡ b
+          → pick a 0 (pick b (pounds_in_pence t.amount) (credit_of t ms)) ≤ pounds_in_pence t.amount
+      go true b d e = omega arith
+      go false true d e = omega arith
+      go false false d e = worked_most t ms none (not_lump open_months t.term ms (eqb-false _ _ d) (eqb-false _ _ e))
 
   -- whatever the terms and marks: what is refused has no credit
   pub settle_credit_most : (settle_of t ms).credit ≤ pounds_in_pence t.amount
@@ -85,30 +87,31 @@ module _ (t : Terms) (ms : List ℕ) where
       let none = sym (settle_refusal_lem t ms) ∙ z in
       rw (settle_settled t ms none) (contribution_least t 0 (settled_terms t ms none))
 
-  -- eleven monthly contributions at most
+  -- eleven monthly contributions at most, or a lump sum
   refund_bound : (settle_refusal t ms).refusal ≡ 0 → refund_at_status t ms (status_of open_months t.term ms) ≤ most_refund
-  unfolding refund_at_status
-  refund_bound none = go (eqb (status_of open_months t.term ms) 5) refl
+  unfolding refund_at_status payments_of
+  refund_bound none = go (eqb (status_of open_months t.term ms) 5) refl (eqb t.term 0) refl
     where
-      few_paid : status_of open_months t.term ms ≡ 5 → paid_months ms ≤ ceased_from - 1
-      few_paid s =
+      few_paid : 0 < t.term → status_of open_months t.term ms ≡ 5 → paid_months ms ≤ ceased_from - 1
+      few_paid monthly s =
           omega (
             arith,
-            refunded_early open_months t.term ms s,
+            refunded_early open_months t.term ms monthly s,
             (rw (marks_counts open_months t.term ms (settled_marks t ms none)) at (marks_within open_months t.term ms)).paid_most,
           )
 
-      monthly : status_of open_months t.term ms ≡ 5 → contribution_of t ≤ most_monthly_contribution
-      monthly s = monthly_most t 0 (settled_terms t ms none) (not_lump open_months t.term ms (λ six. omega (arith, s, six)))
-
-      go : (b : Bool) → eqb (status_of open_months t.term ms) 5 ≡ b → pick b (contribution_of t * paid_months ms) 0 ≤ most_refund
-      go true e =
-          let s = eqb-true _ _ e in
+      go : (b : Bool) → eqb (status_of open_months t.term ms) 5 ≡ b → (l : Bool) → eqb t.term 0 ≡ l
+          → pick b (contribution_of t * pick l 1 (paid_months ms)) 0 ≤ most_refund
+      go false e l d = omega arith
+      go true e true d = omega (arith, contribution_most t 0 (settled_terms t ms none))
+      go true e false d =
+          let monthly : 0 < t.term = omega (arith, eqb-false _ _ d) in
           omega (
             arith,
-            mul-le-mul {n₁ = contribution_of t} {m₁ = paid_months ms} {n₂ = most_monthly_contribution} {m₂ = ceased_from - 1} (monthly s) (few_paid s),
+            mul-le-mul {n₁ = contribution_of t} {m₁ = paid_months ms} {n₂ = most_monthly_contribution} {m₂ = ceased_from - 1}
+                (monthly_most t 0 (settled_terms t ms none) monthly)
+                (few_paid monthly (eqb-true _ _ e)),
           )
-      go false e = omega arith
 
   pub settle_bounds : SettleBounds (settle_of t ms)
   settle_bounds = go (ℕ_discrete (settle_refusal t ms).refusal 0)

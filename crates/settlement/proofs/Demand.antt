@@ -19,9 +19,12 @@ use Rattle.terms.specs.Rules.{refusal_of}
 use Rattle.election.specs.ContributionOf.{contribution_of}
 use Rattle.election.proofs.Laws.{terms_accepted}
 use Rattle.refusals.specs.Places.{RefusedAt}
+use Rattle.marks.specs.declared.kinds.Kind.{Kind}
+use Rattle.marks.specs.Kind.{kind_of}
 use Rattle.marks.specs.Lawful.{Lawful, LawfulFor}
 use Rattle.marks.proofs.Runs.{all_paid_lawful}
-use Rattle.marks.proofs.Term.{marks_unrefused}
+use Rattle.marks.proofs.KindOf.{monthly_limit}
+use Rattle.marks.proofs.Term.{few_months, marks_unrefused}
 use Rattle.marks.specs.Status.{status_of}
 use Rattle.marks.proofs.StatusOf.{monthly_status, full_status}
 use Rattle.credit.specs.Runs.{paid_flags, starts_after, run_count}
@@ -44,7 +47,7 @@ none_after (m ∷ ms) h =
     (none_after ms (λ ys zs n e. h (m ∷ ys) zs n (ap (λ (l : List ℕ). m ∷ l) e)))
 
 -- lawful marks with a paid one begin with a paid one
-first_paid : (ms : List ℕ) → Lawful open_months ms → 1 ≤ run_count ms → (rest : List Bool) × (paid_flags ms ≡ true ∷ rest)
+first_paid : {kind : Kind} (ms : List ℕ) → Lawful kind open_months ms → 1 ≤ run_count ms → (rest : List Bool) × (paid_flags ms ≡ true ∷ rest)
 unfolding run_count starts_after
 first_paid [] law k = absurd (omega arith)
 first_paid (m ∷ ms) law k =
@@ -74,7 +77,7 @@ demand_3 t ms z years k other =
     let first = first_paid ms law.lawful k in
     rw (settle_settled t ms none)
     (rw (credit_worked t ms (omega arith) other)
-    (distance nearest nearest_within_half nearest_monotone (purchases_of t) (sound t (settled_terms t ms none) (omega arith)) ms law.few
+    (distance nearest nearest_within_half nearest_monotone (purchases_of t) (sound t (settled_terms t ms none) (omega arith)) ms (few_months open_months t.term ms (omega arith) law)
     first.0 first.1))
 
 -- a monthly contract's runs never earn more than the amount
@@ -84,7 +87,8 @@ worked_most t ms none monthly =
     let a = settled_terms t ms none in
     omega (
       arith,
-      contract_most nearest nearest_within_half nearest_monotone (purchases_of t) (sound t a monthly) ms (settled_marks t ms none).few,
+      contract_most nearest nearest_within_half nearest_monotone (purchases_of t) (sound t a monthly) ms
+          (few_months open_months t.term ms monthly (settled_marks t ms none)),
       a.whole,
     )
 
@@ -107,7 +111,10 @@ unfolding credit_at_status refund_at_status
 settle_full t pass monthly =
     let paid : List ℕ = replicate (months_in_year * t.term) 1 in
     let law : LawfulFor open_months t.term paid =
-    record { few = omega (arith, length-replicate {A = ℕ} (months_in_year * t.term) 1); lawful = all_paid_lawful open_months (months_in_year * t.term) } in
+    record {
+      few = omega (arith, length-replicate {A = ℕ} (months_in_year * t.term) 1, monthly_limit t.term monthly);
+      lawful = all_paid_lawful (kind_of t.term) open_months (months_in_year * t.term);
+    } in
     let none : (settle_refusal t paid).refusal ≡ 0 =
     ap (λ (r : RefusedAt). r.refusal) (refused_by_marks t paid pass ∙ marks_unrefused open_months t.term paid law) in
     settle_settled t paid none ∙ rw (full_status open_months t.term monthly, full_credit t pass monthly)

@@ -8,6 +8,7 @@ use Rattle.scheme.specs.Scheme.{open_months}
 use Rattle.terms.specs.declared.Terms.{Terms}
 use Rattle.terms.specs.Rules.{refusal_of}
 use Rattle.refusals.specs.Places.{RefusedAt, refusing}
+use Rattle.marks.specs.Kind.{kind_of}
 use Rattle.marks.specs.Refusal.{marks_refusal}
 use Rattle.marks.proofs.Outcome.{bad_number}
 use Rattle.marks.proofs.Term.{too_many_marks, bad_refused, few_refused, marks_unrefused}
@@ -42,7 +43,7 @@ module _ (t : Terms) (ms : List ℕ) where
             settle_refusal_lem t ms ∙ ap (λ (r : RefusedAt). r.refusal) (refused_by_marks t ms pass ∙ marks_unrefused open_months t.term ms law);
         too_many = λ pass many. marks_refused pass 10 0 (omega arith) (too_many_marks open_months t.term ms many);
         first_bad = λ pass few k i bad.
-            marks_refused pass k i (bad_number open_months ms k i bad) (bad_refused open_months t.term ms k i few bad);
+            marks_refused pass k i (bad_number (kind_of t.term) open_months ms k i bad) (bad_refused open_months t.term ms k i few bad);
         refused = λ pass few some.
             let is = refused_numbers_lem pass some in
             rw is (few_refused open_months t.term ms few (rw is at some));

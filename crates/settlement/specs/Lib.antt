@@ -1,6 +1,7 @@
 pub mod Credit
 pub mod Settle
 pub mod Marks
+pub mod LumpSum
 pub mod Demand
 pub mod Bounds
 pub mod Six

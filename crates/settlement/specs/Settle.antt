@@ -7,7 +7,7 @@ use Rattle.terms.specs.declared.Terms.{Terms}
 use Rattle.election.specs.ContributionOf.{contribution_of}
 use Rattle.refusals.specs.declared.Refused.{Refused}
 use Rattle.refusals.specs.Numbers.{refusal_number}
-use Rattle.marks.specs.Counts.{paid_months}
+use Rattle.marks.specs.Counts.{payments_of}
 use Rattle.marks.specs.Numbers.{status_number}
 use Rattle.marks.specs.Status.{status_of}
 use Rattle.examination.specs.Refusal.{settle_refusal}
@@ -27,9 +27,9 @@ pub record SettleNumbers : Type 0 where
 unfoldable pub credit_at_status : Terms → (marks : List ℕ) (status : ℕ) → ℕ
 credit_at_status t marks status = pick (eqb status 5) 0 (pick (eqb status 6) (pounds_in_pence t.amount) (credit_of t marks))
 
--- M13: the contribution for each paid month when refunded, else nothing
+-- M13: each contribution that was paid when refunded, for each paid month or the lump sum once, else nothing
 unfoldable pub refund_at_status : Terms → (marks : List ℕ) (status : ℕ) → ℕ
-refund_at_status t marks status = pick (eqb status 5) (contribution_of t * paid_months marks) 0
+refund_at_status t marks status = pick (eqb status 5) (contribution_of t * payments_of t.term marks) 0
 
 -- O1: a refusal, all other fields 0
 abbrev pub refused_settlement : (refusal place : ℕ) → SettleNumbers

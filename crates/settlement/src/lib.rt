@@ -12,6 +12,7 @@ ghost use Rattle.settlement.specs.Credit.{credit_of};
 ghost use Rattle.settlement.specs.Settle.{credit_at_status, settle_of, numbers_of_settlement};
 ghost use Rattle.settlement.specs.Demand.{Demand3};
 ghost use Rattle.settlement.specs.Marks.{MarksAnswered};
+ghost use Rattle.settlement.specs.LumpSum.{LumpSumAnswered};
 ghost use Rattle.settlement.specs.Six.{as_settle_numbers};
 
 use election::Election;
@@ -64,23 +65,24 @@ pub fn credit_at_status(e: Election, status: Status, marks: &[u8]) -> PensionPen
     }
 }
 
-// The refund at a status: the paid months' contributions when refunded.
-fn refund_at_status(own: ContributionPence, status: Status, paid_months: usize) -> ContributionPence
-    requires { (own.0 < 2 ^ 32) × (paid_months ≤ most_marks) }
-    ensures { result ≡ contribution (pick (eqb (status_number status) 5) (own.0 * paid_months) 0) }
+// The refund at a status: the contributions that were paid when refunded.
+fn refund_at_status(own: ContributionPence, status: Status, payments: usize) -> ContributionPence
+    requires { (own.0 < 2 ^ 32) × (payments ≤ most_marks) }
+    ensures { result ≡ contribution (pick (eqb (status_number status) 5) (own.0 * payments) 0) }
 {
     match status {
-        Status::Refunded => own.times(paid_months as u32),
+        Status::Refunded => own.times(payments as u32),
         _ => ContributionPence::none(),
     }
 }
 
 // Contribution, status, credit and refund; or the first refusal and its place.
-#[tactic(auto, using(common::proofs::Tests::tests, refusals::proofs::Numbers::refusal_positive, examination::proofs::Laws::settled_few, examination::proofs::Unrefused::examined_monthly, crate::proofs::Demand::demand_3, crate::proofs::Marks::same_marks_answered), unfolding(crate::specs::Settle::settle_of, crate::specs::Settle::refund_at_status))]
+#[tactic(auto, using(common::proofs::Tests::tests, refusals::proofs::Numbers::refusal_positive, examination::proofs::Laws::settled_few, examination::proofs::Unrefused::examined_monthly, crate::proofs::Demand::demand_3, crate::proofs::Marks::same_marks_answered, crate::proofs::LumpSum::same_lump_sum_answered), unfolding(crate::specs::Settle::settle_of, crate::specs::Settle::refund_at_status))]
 pub fn settle(t: Terms, marks: &[u8]) -> Result<Settlement, Refused>
     ensures is { numbers_of_settlement result ≡ settle_of t marks.now }
     ensures distance { Demand3 t marks.now (numbers_of_settlement result) }
     ensures marks { MarksAnswered t marks.now (numbers_of_settlement result) }
+    ensures lump_sum { LumpSumAnswered t marks.now (numbers_of_settlement result) }
     ensures refused { is_refused result ≡ ltb 0 (settle_of t marks.now).refusal }
 {
     let e = examination::examine(t, marks)?;
@@ -89,7 +91,7 @@ pub fn settle(t: Terms, marks: &[u8]) -> Result<Settlement, Refused>
         contribution,
         status: e.status,
         credit: credit_at_status(e.election, e.status, marks),
-        refund: refund_at_status(contribution, e.status, e.paid_months),
+        refund: refund_at_status(contribution, e.status, e.payments),
     })
 }
 

@@ -9,9 +9,9 @@ use Rattle.money.specs.Money.{pension}
 use Rattle.money.specs.declared.PensionPence.{PensionPence}
 use Rattle.terms.specs.declared.Terms.{Terms}
 use Rattle.terms.specs.Rules.{refusal_of}
-use Rattle.marks.specs.Reading.{ReadSoFar, as_read, marks_reading, status_from}
-use Rattle.marks.proofs.StatusOf.{status_lawful}
-use Rattle.marks.proofs.Term.{marks_counts, marks_number, marks_place}
+use Rattle.marks.specs.Reading.{ReadSoFar, as_read, marks_reading, status_from, payments_from}
+use Rattle.marks.proofs.StatusOf.{status_lawful, payments_lawful}
+use Rattle.marks.proofs.Term.{marks_number, marks_place}
 use Rattle.examination.specs.Refusal.{settle_refusal}
 use Rattle.examination.proofs.Laws.{refused_by_marks, settled_marks}
 use Rattle.examination.proofs.examine.Goals as goal
@@ -36,5 +36,5 @@ returns-clause-found c =
     record {
       terms = c.in_ok-election.ensures.terms;
       status = c.status.ensures ∙ ap (status_from t.term) read ∙ status_lawful open_months t.term c.args.marks.now law;
-      paid = ap (λ (r : ReadSoFar). r.paid_months) (read ∙ marks_counts open_months t.term c.args.marks.now law);
+      paid = c.payments.ensures ∙ ap (payments_from t.term) read ∙ payments_lawful open_months t.term c.args.marks.now law;
     }

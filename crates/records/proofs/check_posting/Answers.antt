@@ -15,11 +15,11 @@ returns-in_err-check_record c =
     let e = check_refused c.args.c c.in_err-check_record.field-0.0 c.in_err-check_record.ensures in
     rw (p.1, p.2, e.1) (sym (bad_answer c.args.c c.args.mark e.0))
 
-pub returns-then-c-term : goal.returns-then-c-term
-returns-then-c-term c =
+pub returns-then-c-mark_limit : goal.returns-then-c-mark_limit
+returns-then-c-mark_limit c =
     let full : length c.args.c.marks ≡ most_marks = omega arith in
     let good = (check_passed c.args.c c.in_ok-check_record.ensures).0 in
-    rw c.into.ensures (sym (over_answer c.args.c c.args.mark full good c.if-c-term.true))
+    rw c.into.ensures (sym (over_answer c.args.c c.args.mark full good (omega (arith, c.mark_limit.ensures, c.if-c-mark_limit.true))))
 
 pub split_at-requires : goal.split_at-requires
 split_at-requires c =
@@ -32,7 +32,7 @@ returns-in_err-read c =
     let full : length c.args.c.marks ≡ most_marks = omega arith in
     let good = (check_passed c.args.c c.in_ok-check_record.ensures).0 in
     let e = c.in_err-read.field-0.0 in
-    rw (p.1, p.2) (early_answer c.args.c c.args.mark full good c.if-c-term.false _ (rw c.split_at.ensures.front at c.in_err-read.ensures) (refusal_positive e.refusal))
+    rw (p.1, p.2) (early_answer c.args.c c.args.mark full good (omega (arith, c.mark_limit.ensures, c.if-c-mark_limit.false)) _ (rw c.split_at.ensures.front at c.in_err-read.ensures) (refusal_positive e.refusal))
 
 pub returns-in_err-read_mark : goal.returns-in_err-read_mark
 returns-in_err-read_mark c =
@@ -40,12 +40,12 @@ returns-in_err-read_mark c =
     let full : length c.args.c.marks ≡ most_marks = omega arith in
     let good = (check_passed c.args.c c.in_ok-check_record.ensures).0 in
     rw (p.1, p.2)
-    (read_answer c.args.c c.args.mark full good c.if-c-term.false _
+    (read_answer c.args.c c.args.mark full good (omega (arith, c.mark_limit.ensures, c.if-c-mark_limit.false)) _
     (c.in_err-read_mark.ensures ∙ ap (λ (r : ReadSoFar). step_by count_up r c.args.mark) (rw c.split_at.ensures.front at c.in_ok-read.ensures)))
 
 pub returns : goal.returns
 returns c =
     let full : length c.args.c.marks ≡ most_marks = omega arith in
     let good = (check_passed c.args.c c.in_ok-check_record.ensures).0 in
-    read_answer c.args.c c.args.mark full good c.if-c-term.false _
+    read_answer c.args.c c.args.mark full good (omega (arith, c.mark_limit.ensures, c.if-c-mark_limit.false)) _
     (c.in_ok-read_mark.ensures ∙ ap (λ (r : ReadSoFar). step_by count_up r c.args.mark) (rw c.split_at.ensures.front at c.in_ok-read.ensures))

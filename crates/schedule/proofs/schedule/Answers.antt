@@ -44,11 +44,6 @@ module _ (t : Terms) (marks list : List ℕ) where
     unfolding schedule_of at_list
     filled h = rw (eq-eqb (settle_of t marks).refusal 0 (settle_refusal_lem t marks ∙ unrefused), le-ltb (length list) (length marks) h)
 
-  -- with no marks nothing is written
-  unwritten : length marks ≡ 0 → list ≡ filled_of t marks list
-  unfolding filled_of tabulate
-  unwritten e = rw e
-
 pub returns-in_err-examined : goal.returns-in_err-examined
 returns-in_err-examined c =
     let p = err_from_is_err_and c.from_residual.result c.from_residual.ensures.1 in
@@ -57,26 +52,20 @@ returns-in_err-examined c =
 pub returns-then-out-marks : goal.returns-then-out-marks
 returns-then-out-marks c = rw c.into.ensures (short c.args.t c.args.marks.now _ c.in_ok-examined.ensures.refusal c.if-out-marks.true)
 
-pub returns-then-is_empty : goal.returns-then-is_empty
-unfolding at_list
-returns-then-is_empty c =
-    let t = c.args.t in
-    let none = eqb-true (length c.args.marks.now) 0 (sym c.if-is_empty.ensures) in
-    ap at_list (unwritten t c.args.marks.now _ none) ∙ filled t c.args.marks.now _ c.in_ok-examined.ensures.refusal c.if-out-marks.false
+pub fill_lump_sum-requires-clause-none_refused : goal.fill_lump_sum-requires-clause-none_refused
+fill_lump_sum-requires-clause-none_refused c = unrefused c.args.t c.args.marks.now [] c.in_ok-examined.ensures.refusal
 
--- a contract with a mark is monthly
-monthly : (t : Terms) (marks : List ℕ) → refusing 0 0 ≡ settle_refusal t marks → (length marks ≡ 0 → ⊥) → 0 < t.term
-monthly t marks none some = omega (arith, some, (settled_marks t marks (unrefused t marks [] none)).few)
+pub returns-then-t-eq0 : goal.returns-then-t-eq0
+unfolding at_list
+returns-then-t-eq0 c =
+    ap at_list c.fill_lump_sum.ensures ∙ filled c.args.t c.args.marks.now _ c.in_ok-examined.ensures.refusal c.if-out-marks.false
 
 pub of-requires : goal.of-requires
-of-requires c =
-    let e = c.in_ok-examined.ensures in
-    let some = eqb-false (length c.args.marks.now) 0 (sym c.if-is_empty.ensures) in
-    rw e.found.terms (monthly c.args.t c.args.marks.now e.refusal some)
+of-requires c = rw c.in_ok-examined.ensures.found.terms (omega (arith, c.if-t-eq0.false))
 
-pub returns : goal.returns
+pub returns-else-t-eq0 : goal.returns-else-t-eq0
 unfolding at_list
-returns c =
+returns-else-t-eq0 c =
     let t = c.args.t in
     let e = c.in_ok-examined.ensures in
     let same = c.of.ensures ∙ e.found.terms in

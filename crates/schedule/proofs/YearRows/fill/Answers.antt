@@ -15,7 +15,7 @@ use Rattle.settlement.proofs.Bounds.{settle_credit_most}
 use Rattle.schedule.specs.Schedule.{entry_of, filled_of}
 use Rattle.schedule.specs.Walk.{WalkSoFar, step_walk, walk_of, held_of, Holdable}
 use Rattle.schedule.specs.declared.YearRows.{YearRows}
-use Rattle.schedule.proofs.Laws.{walk_starts, walk_more, walk_months, holds, entry_held}
+use Rattle.schedule.proofs.Laws.{walk_starts, walk_more, walk_months, holds, entry_held, all_written}
 use Rattle.schedule.proofs.YearRows.fill.Goals as goal
 
 module _ (s : YearRows) (marks : List ℕ) (none : (settle_refusal s.election.terms marks).refusal ≡ 0) where
@@ -32,11 +32,6 @@ module _ (s : YearRows) (marks : List ℕ) (none : (settle_refusal s.election.te
 entry_small : (t : Terms) (marks : List ℕ) (i : ℕ) → entry_of t marks i ≤ pounds_in_pence t.amount
 unfolding entry_of
 entry_small t marks i = settle_credit_most t (take (suc i) marks)
-
-done : (t : Terms) (marks old out : List ℕ) {i : ℕ} → length marks ≤ length old → i ≡ length marks → Written (entry_of t marks) old out i
-    → out ≡ filled_of t marks old
-unfolding filled_of
-done t marks old out few e w = written_list (entry_of t marks) old out (length marks) few (subst (Written (entry_of t marks) old out) e w)
 
 pub loop-i-init : goal.loop-i-init
 loop-i-init c =
@@ -82,4 +77,4 @@ loop-i-preserved c =
 pub returns : goal.returns
 returns c =
     let l = c.loop-i in
-    done _ c.args.marks.now _ _ c.requires.marks_in_bounds (omega (arith, c.loop-i-test.false, l.auto.i-end)) l.invariant.written
+    all_written _ c.args.marks.now _ _ c.requires.marks_in_bounds (omega (arith, c.loop-i-test.false, l.auto.i-end)) l.invariant.written
