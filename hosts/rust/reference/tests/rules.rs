@@ -230,8 +230,8 @@ fn a_lump_sum_is_never_paid_off() {
 }
 
 #[test]
-fn the_first_bad_mark_of_a_lump_sum_by_another_count() {
-    // From each list of up to five marks, the shortest of its beginnings that is not elapsed months and then months since leaving.
+fn the_first_bad_mark_of_a_lump_sum_ends_a_lawful_beginning() {
+    // In every list of up to five marks: the shortest beginning that is not elapsed months and then months since leaving.
     for count in 0..=5 {
         for list in 0..4_u32.pow(count) {
             let marks: Vec<u8> = (0..count).map(|month| (list >> (2 * month) & 3) as u8).collect();
