@@ -34,7 +34,7 @@ extern "C" {
 
 /* The archive that this header goes with. A host compares both with ap_interface() and ap_rules() at its start. */
 #define AP_INTERFACE 1u  /* one more each time a call that was there changes its parameters, or a name goes */
-#define AP_RULES 4u      /* the last request that is in the part; hosts/README.md says which results each one moved */
+#define AP_RULES 5u      /* the last request that is in the part; hosts/README.md says which results each one moved */
 
 /* Option: what is bought. */
 #define AP_OPTION_PERSONAL 1u
@@ -48,12 +48,17 @@ extern "C" {
 #define AP_TERM_LUMP_SUM 0u
 
 /*
- * Marks: one for each elapsed month of a contract. The first is not 0; directly before a 1 stand at most eleven 0s; after a 2
- * stand only 2s.
+ * Marks: one for each elapsed month of a contract. After a 2 stand only 2s.
+ *
+ * A monthly contract has up to 12 for each year of its term. The first is not 0; directly before a 1 stand at most eleven 0s.
+ *
+ * A lump sum has up to 12, those of its first year: a 1 for each month that has elapsed, then 2s from the month in which the member
+ * died, became entitled to an ill-health pension or left without a pension. A first mark 2 is lawful, a 0 nowhere. Where nobody has
+ * left, no marks say the same as up to twelve 1s.
  */
 #define AP_MARK_MISSED 0u
-#define AP_MARK_PAID 1u
-#define AP_MARK_ENDED 2u
+#define AP_MARK_PAID 1u   /* of a lump sum: a month that has elapsed */
+#define AP_MARK_ENDED 2u  /* ended by notice; of a lump sum: the member has left */
 
 /* Refusals. A call gives the first that applies, in the order that stands with its function; not all go by the numbers. */
 #define AP_REFUSED_NOTHING 0u
@@ -67,11 +72,12 @@ extern "C" {
 #define AP_REFUSED_AMOUNT 7u         /* the amount is 0 or not a multiple of 250 pounds */
 #define AP_REFUSED_CAP 8u            /* existing pension and the new amount exceed 6,500 pounds a year */
 #define AP_REFUSED_LAST_NUMBER 9u    /* ap_quote: the last number is 999,999 or more */
-#define AP_REFUSED_MARK_COUNT 10u    /* more marks than the term has months, or any for a lump sum */
+#define AP_REFUSED_MARK_COUNT 10u    /* more marks than 12 for each year of the term, or than 12 for a lump sum */
 #define AP_REFUSED_MARK_VALUE 11u    /* the mark at the place is above 2 */
-#define AP_REFUSED_MARK_ORDER 12u    /* the mark at the place is not lawful after those before it */
+#define AP_REFUSED_MARK_ORDER 12u    /* the mark at the place is not lawful after those before it; for a lump sum any 0, and a 1
+                                      * after a 2 */
 #define AP_REFUSED_SHORT_BUFFER 14u  /* the buffer is too short; it keeps its bytes */
-#define AP_REFUSED_NOTHING_TO_PAY_OFF 16u  /* ap_pay_off: the status is 0, 5 or 6 */
+#define AP_REFUSED_NOTHING_TO_PAY_OFF 16u  /* ap_pay_off: the status is 0, 5 or 6; so for every lump sum, refunded or not */
 #define AP_REFUSED_INCREASE 17u      /* ap_pay_off: the increase is not from 1,000 to 9,999 */
 #define AP_REFUSED_APPLICATION 18u   /* ap_reduction_limit: a number is outside the range that stands with the function */
 
@@ -81,8 +87,8 @@ extern "C" {
 #define AP_STATUS_IN_GAP 2u       /* one to eleven missed months at the end, the term is not over */
 #define AP_STATUS_COMPLETE 3u     /* every month of the term is paid */
 #define AP_STATUS_CEASED 4u       /* stopped, the last paid month being the twelfth or later: the credit stays */
-#define AP_STATUS_REFUNDED 5u     /* stopped earlier: what was paid goes back, the credit is 0 */
-#define AP_STATUS_LUMP_SUM 6u     /* a lump sum, credited in full */
+#define AP_STATUS_REFUNDED 5u     /* stopped earlier, or a lump sum with a mark 2: what was paid goes back, the credit is 0 */
+#define AP_STATUS_LUMP_SUM 6u     /* a lump sum without a mark 2, credited in full */
 
 /* A quote's result: three numbers of 8 bytes, low byte first, at these offsets. */
 #define AP_QUOTE_REFUSAL 0u
@@ -96,7 +102,7 @@ extern "C" {
 #define AP_SETTLE_CONTRIBUTION 16u  /* pence, by the month or as a lump sum */
 #define AP_SETTLE_STATUS 24u
 #define AP_SETTLE_CREDIT 32u        /* pence of pension a year */
-#define AP_SETTLE_REFUND 40u        /* pence */
+#define AP_SETTLE_REFUND 40u        /* pence: at status 5 the contribution for each paid month, or a lump sum once; else 0 */
 #define AP_SETTLE_BYTES 48u
 
 /* A pay-off's result: five numbers of 8 bytes, low byte first, at these offsets. */
@@ -151,8 +157,11 @@ uint32_t ap_quote(uint32_t age, uint32_t pnpa_years, uint32_t pnpa_months, uint3
  * Settles a contract as its marks stand.
  *
  *   age to amount     as for ap_quote
- *   marks, marks_len  one byte for each elapsed month, the first month first; they are read only
+ *   marks, marks_len  one byte for each elapsed month, the first month first, at most 12 for each year of the term, or 12 for a
+ *                     lump sum; they are read only
  *   out, out_len      where the result goes
+ *
+ * A lump sum is refunded to whoever paid it, member or employer, and once, however many months are marked.
  *
  * If out_len is below 48, the value is 14 and nothing is written. Otherwise the value is the refusal (0 to 8, 10 to 12), and
  * exactly the first 48 bytes of out are written: the refusal, its place, the contribution, the status, the credit and the

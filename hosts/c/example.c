@@ -322,6 +322,8 @@ int main(void)
                                      AP_PAYER_MEMBER, 10, 1750};
     const struct terms lump_sum = {"lump sum, personal", 40, 68, 0, AP_OPTION_PERSONAL, AP_PAYER_EMPLOYER,
                                    AP_TERM_LUMP_SUM, 2000};
+    const struct terms own_lump_sum = {"lump sum of the member, pension age with odd months", 50, 66, 5, AP_OPTION_WITH_DEPENDANT,
+                                       AP_PAYER_MEMBER, AP_TERM_LUMP_SUM, 1000};
     const struct terms no_multiple = {"not a multiple", 50, 65, 0, AP_OPTION_WITH_DEPENDANT, AP_PAYER_MEMBER, 5, 1100};
     const struct request as_read = {"as it was read", 50, 65, 0, AP_OPTION_WITH_DEPENDANT, AP_PAYER_MEMBER, 5, 1000};
     const struct request wide_age = {"an age of ten digits", 4294967346, 65, 0, AP_OPTION_WITH_DEPENDANT, AP_PAYER_MEMBER, 5, 1000};
@@ -356,6 +358,15 @@ int main(void)
     settle(&five_years, "1131");
     settle(&odd_months, "111111111111111");
     settle(&lump_sum, "");
+    settle(&lump_sum, YEAR);
+    settle(&lump_sum, "111111111112");
+    settle(&own_lump_sum, "11111");
+    settle(&own_lump_sum, "111112222222");
+    settle(&own_lump_sum, "2");
+    settle(&own_lump_sum, "1110");
+    settle(&own_lump_sum, "11121");
+    settle(&own_lump_sum, "13");
+    settle(&own_lump_sum, YEAR "1");
 
     pay_off(&five_years, "111111111111111111", 51, 1011);
     pay_off(&five_years, "1111111111111111110000111111", 52, 1011);
@@ -366,6 +377,7 @@ int main(void)
     pay_off(&five_years, "", 50, 1000);
     pay_off(&five_years, "111112", 50, 1000);
     pay_off(&lump_sum, "", 41, 1011);
+    pay_off(&lump_sum, "112", 41, 1011);
     pay_off(&five_years, "111111111111111111", 51, 999);
     pay_off(&five_years, "111111111111111111", 51, 10000);
     pay_off(&five_years, "111111111111111111", 65, 1011);

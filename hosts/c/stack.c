@@ -19,8 +19,9 @@
 #define STACK_BYTES (4 * LIMIT)
 #define PATTERN 0xa5
 
-/* The months of the longest term. */
+/* The months of the longest term, and those that a lump sum has marks for. */
 #define MOST_MARKS 240u
+#define LUMP_SUM_MARKS 12u
 
 /* What the next call is given, and its value. */
 static uint32_t age, pnpa_years, pnpa_months, option, payer, term, amount, age_now, increase;
@@ -125,10 +126,12 @@ static uint32_t from_to(uint32_t least, uint32_t most)
     return least + (uint32_t)(state >> 33) % (most - least + 1);
 }
 
-/* Marks: as many as the term has months, or fewer, or one more; paid, some of them missed, at most one of them bad. */
+/* Marks: as many as the contract may have, or fewer, or one more; paid, some of them missed, at most one of them bad. */
 static void make_up_marks(void)
 {
     uint32_t months = term < 20 ? 12 * term : MOST_MARKS, apart = from_to(2, 60);
+    if (term == AP_TERM_LUMP_SUM)
+        months = LUMP_SUM_MARKS;
     marks_len = from_to(0, 1) ? months : from_to(0, months + 1);
     memset(marks, AP_MARK_PAID, sizeof marks);
     for (uint32_t month = apart; month < marks_len; month += apart)

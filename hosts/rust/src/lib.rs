@@ -108,7 +108,7 @@ pub struct Settlement {
     pub status: Status,
     /// The pension that has been earned.
     pub credit: Pension,
-    /// What goes back to the payer.
+    /// What goes back to the payer, member or employer: the contribution for each paid month, or a lump sum once.
     pub refund: Contribution,
 }
 
@@ -148,7 +148,12 @@ pub fn quote(terms: &Terms, existing: Pension, last_number: u32) -> Result<Quote
     })
 }
 
-/// Settles a contract. There is a mark for each elapsed month: [`MISSED`], [`PAID`] or [`ENDED`].
+/// Settles a contract. There is a mark for each elapsed month, [`MISSED`], [`PAID`] or [`ENDED`], at most 12 for each year of the
+/// term.
+///
+/// A lump sum has marks for its first year, 12 at most: [`PAID`] for each month that has elapsed, then [`ENDED`] from the month in
+/// which the member died, became entitled to an ill-health pension or left without a pension. The lump sum then goes back. Where
+/// nobody has left, no marks say the same as up to twelve of [`PAID`].
 pub fn settle(terms: &Terms, marks: &[u8]) -> Result<Settlement, Refusal> {
     let mut result = [0; raw::SETTLE_BYTES];
     let refusal = raw::settle(&terms.numbers(), marks, &mut result);

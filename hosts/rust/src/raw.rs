@@ -4,7 +4,7 @@
 pub const INTERFACE: u32 = 1;
 
 /// The rules that this crate is written for: the last request that was in the part.
-pub const RULES: u32 = 4;
+pub const RULES: u32 = 5;
 
 /// The bytes of a quote's result: numbers of 8 bytes, low byte first.
 pub const QUOTE_BYTES: usize = 24;

@@ -25,15 +25,17 @@ pub enum Refusal {
     AboveCap,
     /// 9: the register has no further number.
     NumbersUsedUp,
-    /// 10: there are more marks than the term has months, or any for a lump sum.
+    /// 10: there are more marks than 12 for each year of the term, or than 12 for a lump sum.
     TooManyMarks,
     /// 11: a mark is above 2.
     UnknownMark { place: u64 },
-    /// 12: a mark is not lawful after those before it.
+    /// 12: a mark is not lawful after those before it; for a lump sum any [`MISSED`](crate::MISSED), and a
+    /// [`PAID`](crate::PAID) after an [`ENDED`](crate::ENDED).
     UnlawfulMark { place: u64 },
     /// 14: the result's buffer is too short. This crate's own buffers are not.
     ShortBuffer,
-    /// 16: no month has elapsed, the contract was refunded, or it is a lump sum. A complete contract is paid off for nothing.
+    /// 16: no month has elapsed, the contract was refunded, or it is a lump sum, refunded or not. A complete contract is paid off
+    /// for nothing.
     NothingToPayOff,
     /// 17: the increase is not from 1,000 to 9,999 thousandths.
     Increase,

@@ -75,11 +75,29 @@ fn assert_listed(what: &str, file: &[u8], pieces: usize) {
     assert_eq!(difference(&printed, &reference_listing(file)), None, "{what}, in pieces of {pieces}");
 }
 
+/// The number in a field of a listing.
+fn listed_number(field: &[u8]) -> usize {
+    std::str::from_utf8(field).expect("digits").trim().parse().expect("a number")
+}
+
 fn count_refusals(listing: &[u8]) -> [u64; 16] {
     let mut counts = [0; 16];
     for line in listing.chunks_exact(46) {
-        let refusal = std::str::from_utf8(&line[6..9]).expect("digits").trim();
-        counts[refusal.parse::<usize>().expect("a number")] += 1;
+        counts[listed_number(&line[6..9])] += 1;
+    }
+    counts
+}
+
+/// Of the lump sums with marks: how many are refused 10, 11 and 12, and how many have status 5 and 6.
+fn count_lump_sums(file: &[u8], listing: &[u8]) -> [u64; 5] {
+    let mut counts = [0; 5];
+    let lines = file.split(|&byte| byte == b'\n').zip(listing.chunks_exact(46));
+    for (_, listed) in lines.filter(|(line, _)| line.len() > 29 && line[19..22] == *b"  0") {
+        match (listed_number(&listed[6..9]), listed_number(&listed[13..15])) {
+            (refusal @ 10..=12, _) => counts[refusal - 10] += 1,
+            (0, status @ 5..=6) => counts[status - 2] += 1,
+            _ => (),
+        }
     }
     counts
 }
@@ -97,6 +115,9 @@ fn lines_of_every_shape() {
     for refusal in [0, 1, 2, 3, 4, 5, 7, 8, 10, 11, 12, 15] {
         assert!(counts[refusal] > 0, "refusal {refusal} is met");
     }
+    let lump_sums = count_lump_sums(&file, &expected);
+    println!("  lump sums with marks, refused 10, 11, 12 and of status 5, 6: {lump_sums:?}");
+    assert!(lump_sums.iter().all(|count| *count > 0), "every outcome of a lump sum's marks is met");
     assert_eq!(difference(&run(std::iter::once(&file[..])), &expected), None);
     // Without the last end of line.
     assert_eq!(difference(&run(std::iter::once(&file[..file.len() - 1])), &expected), None);

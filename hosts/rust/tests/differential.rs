@@ -10,7 +10,7 @@ use additional_pension::raw::{self, Numbers};
 use common::{buffer_length, list, Lent, INPUTS, SEED};
 use reference::halves::{HalvesUp, PLACES};
 use reference::samples::{self, Random};
-use reference::Terms;
+use reference::{Settlement, Terms};
 use std::fmt;
 
 /// £1,000 over 5 years from 50, with dependant's pension.
@@ -27,6 +27,7 @@ struct Contracts {
     /// For each of the places where halves go to the even penny: the answers that would be others, if they went up there.
     halves: [u64; PLACES.len()],
     rests: Rests,
+    lump_sums: LumpSums,
 }
 
 /// What was met among pay-offs alone.
@@ -39,6 +40,44 @@ struct Rests {
     /// Taken, with an increased pension that is half a penny more than an even number before its rounding: it goes up, and would
     /// go down to the even penny.
     halves: u64,
+}
+
+/// What was met among lump sums alone.
+#[derive(Debug, Default)]
+struct LumpSums {
+    /// Refused 10, 11 and 12.
+    refused: [u64; 3],
+    /// Status 6, by the number of marks.
+    credited: [u64; 13],
+    /// Status 5, by the number of marks, and of these the employers'.
+    refunded: [u64; 13],
+    to_employer: u64,
+}
+
+impl LumpSums {
+    /// Counts a contract, if it is a lump sum, by what Settle gives for it.
+    fn count(&mut self, terms: &Terms, marks: &[u8], settled: &Settlement) {
+        if terms.term > 0 {
+            return;
+        }
+        match (settled.refusal, settled.status) {
+            (0, 5) => {
+                self.refunded[marks.len()] += 1;
+                self.to_employer += u64::from(terms.payer == 2);
+            }
+            (0, _) => self.credited[marks.len()] += 1,
+            (refusal @ 10..=12, _) => self.refused[refusal as usize - 10] += 1,
+            _ => (),
+        }
+    }
+
+    /// Each refusal of marks, and each status with every number of marks that it can have.
+    fn assert_met(&self) {
+        let [none, marked @ ..] = self.refunded;
+        assert_eq!(none, 0, "a mark 2 is a mark");
+        let counts = [&self.refused[..], &self.credited, &marked, &[self.to_employer]];
+        assert!(counts.concat().iter().all(|count| *count > 0), "{self:?}");
+    }
 }
 
 impl Contracts {
@@ -59,6 +98,12 @@ impl fmt::Display for Contracts {
         if self.statuses.iter().any(|count| *count > 0) {
             writeln!(formatter, "  statuses: {}", list(&self.statuses))?;
             writeln!(formatter, "  most marks in one input: {}", self.longest)?;
+        }
+        let LumpSums { refused, credited, refunded, to_employer } = &self.lump_sums;
+        if credited.iter().chain(refunded).any(|count| *count > 0) {
+            writeln!(formatter, "  lump sums refused 10 to 12: {refused:?}, by the number of marks")?;
+            writeln!(formatter, "    credited: {}", list(credited))?;
+            writeln!(formatter, "    refunded: {}; to an employer: {to_employer}", list(refunded))?;
         }
         let Rests { no_rate_now, cost_nothing, halves } = self.rests;
         if no_rate_now + cost_nothing + halves > 0 {
@@ -99,6 +144,9 @@ fn compare_settle(random: &mut Random, tally: &mut Tally, terms: &Terms, marks: 
     let given = raw::settle(&Numbers::from(terms.numbers()), lent_marks.piece(), out.piece());
     tally.count(value);
     tally.met.longest = tally.met.longest.max(marks.len());
+    if value != raw::SHORT_BUFFER {
+        tally.met.lump_sums.count(terms, marks, &answer);
+    }
     if value == 0 {
         tally.met.statuses[answer.status as usize] += 1;
         tally.met.count_halves(|up| up.contribution(terms) != answer.contribution || up.credit(terms, marks) != answer.credit);
@@ -125,6 +173,9 @@ fn compare_pay_off(
     tally.count(value);
     tally.met.longest = tally.met.longest.max(marks.len());
     let settled = reference::settle(terms, marks);
+    if value != raw::SHORT_BUFFER {
+        tally.met.lump_sums.count(terms, marks, &settled);
+    }
     if value == 0 {
         tally.met.statuses[settled.status as usize] += 1;
         tally.met.rests.cost_nothing += u64::from(answer.cost == 0);
@@ -167,6 +218,7 @@ fn made_up_inputs() {
     quotes.assert_met(&[0, 1, 2, 3, 4, 5, 7, 8, 9, 14]);
     settlements.assert_met(&[0, 1, 2, 3, 4, 5, 7, 8, 10, 11, 12, 14]);
     assert!(settlements.met.statuses.iter().all(|count| *count > 0), "every status is met");
+    settlements.met.lump_sums.assert_met();
     assert_eq!(quotes.met.halves.map(|count| count > 0), [true, false, false, false]);
     assert_eq!(settlements.met.halves.map(|count| count > 0), [true; 4]);
     assert_eq!(quotes.differences + settlements.differences, 0);
@@ -197,6 +249,7 @@ fn made_up_pay_offs() {
     let Rests { no_rate_now, cost_nothing, halves } = pay_offs.met.rests;
     assert!(no_rate_now > 0 && cost_nothing > 0 && halves > 0, "{:?}", pay_offs.met.rests);
     assert_eq!(pay_offs.met.halves.map(|count| count > 0), [false, true, true, true]);
+    pay_offs.met.lump_sums.assert_met();
     assert_eq!(pay_offs.differences, 0);
 }
 
@@ -215,8 +268,7 @@ fn every_election() {
                 let amount = 250 * random.from_to(1, 26);
                 let terms = Terms { age, pension_age_years, pension_age_months, option, payer: 1, term, amount };
                 compare_quote(&mut random, &mut quotes, &terms, 0, 0, raw::QUOTE_BYTES);
-                let count = random.from_to(0, 12 * term) as usize;
-                let marks = samples::lawful_marks(&mut random, count);
+                let marks = samples::some_lawful_marks(&mut random, term);
                 compare_settle(&mut random, &mut settlements, &terms, &marks, raw::SETTLE_BYTES);
                 let whole_years = if pension_age_months == 0 { term as usize } else { 0 };
                 for year in 1..=whole_years {
@@ -285,7 +337,9 @@ fn pay_offs_refused_for_several_reasons() {
         [&[(61, 1)][..], &[(3, 1), (1, 3)], &[(1, 1), (12, 0), (1, 1)], &[], &[(11, 1), (1, 2)]].map(samples::runs);
     let mut contracts = wrong_terms.map(|terms| (terms, vec![1; 18])).to_vec();
     contracts.extend(wrong_marks.into_iter().chain(histories()).map(|marks| (sound, marks)));
-    contracts.push((Terms { term: 0, ..sound }, vec![]));
+    let lump_sum = Terms { term: 0, ..sound };
+    let first_years = [&[][..], &[(12, 1)], &[(11, 1), (1, 2)], &[(13, 1)], &[(1, 1), (1, 3)], &[(1, 0)], &[(1, 2), (1, 1)]];
+    contracts.extend(first_years.map(|marks| (lump_sum, samples::runs(marks))));
     let ages = [0, 15, 16, 64, 65, u32::MAX];
     let increases = [0, 999, 1_000, 9_999, 10_000, u32::MAX];
     for (terms, marks) in contracts {
@@ -327,6 +381,53 @@ fn every_short_history() {
     }
     settlements.print("short histories, settled");
     pay_offs.print("short histories, paid off");
+    assert_eq!(settlements.differences + pay_offs.differences, 0);
+}
+
+/// Every list of so many marks with these values.
+fn every_list(count: u32, values: std::ops::RangeInclusive<u8>) -> impl Iterator<Item = Vec<u8>> {
+    let kinds = u32::from(values.end() - values.start()) + 1;
+    let least = *values.start();
+    (0..kinds.pow(count)).map(move |list| (0..count).map(|month| least + (list / kinds.pow(month) % kinds) as u8).collect())
+}
+
+/// Lump sums of either payer: every list of up to five marks from 0 to 3, every list of 1s and 2s of up to thirteen, and every
+/// lawful one, and one too long, with one mark in each place that is any other.
+#[test]
+fn every_first_year_of_a_lump_sum() {
+    let mut random = Random::new(SEED);
+    let mut settlements = Tally::default();
+    let mut pay_offs = Tally::default();
+    let mut compare = |marks: &[u8]| {
+        for (payer, pension_age_months) in [(1, 0), (1, 7), (2, 0), (2, 7)] {
+            let amount = 250 * random.from_to(1, 26);
+            let terms = Terms { payer, pension_age_months, term: 0, amount, ..FIVE_YEARS };
+            compare_settle(&mut random, &mut settlements, &terms, marks, raw::SETTLE_BYTES);
+            compare_pay_off(&mut random, &mut pay_offs, &terms, marks, 51, 1_011, raw::PAY_OFF_BYTES);
+        }
+    };
+    (0..=5).flat_map(|count| every_list(count, 0..=3)).for_each(|marks| compare(&marks));
+    (6..=13).flat_map(|count| every_list(count, 1..=2)).for_each(|marks| compare(&marks));
+    for (elapsed, left) in (0..=13).flat_map(|count| (0..=count).map(move |left| (count - left, left))) {
+        let marks = samples::runs(&[(elapsed, 1), (left, 2)]);
+        for place in 0..marks.len() {
+            for mark in [0, 1, 2, 3, 4, 128, 255] {
+                let mut spoilt = marks.clone();
+                spoilt[place] = mark;
+                compare(&spoilt);
+            }
+        }
+    }
+    for (place, mark) in (0..12).flat_map(|place| (0..=255).map(move |mark| (place, mark))) {
+        let mut marks = [1; 12];
+        marks[place] = mark;
+        compare(&marks);
+    }
+    settlements.print("first years of lump sums, settled");
+    pay_offs.print("first years of lump sums, paid off");
+    settlements.assert_met(&[0, 10, 11, 12]);
+    pay_offs.assert_met(&[10, 11, 12, 16]);
+    settlements.met.lump_sums.assert_met();
     assert_eq!(settlements.differences + pay_offs.differences, 0);
 }
 

@@ -23,6 +23,29 @@ fn a_settlement() {
     assert_eq!((refunded.status, refunded.credit, refunded.refund), (Status::Refunded, Pension(0), Contribution(484_00)));
 }
 
+/// £1,000 by lump sum from 50, with dependant's pension.
+const LUMP_SUM: Terms = Terms { term: 0, ..TERMS };
+
+#[test]
+fn a_lump_sum() {
+    let contribution = Contribution(11_640_00);
+    let credited = Settlement { contribution, status: Status::LumpSum, credit: Pension(1_000_00), refund: Contribution(0) };
+    let refunded = Settlement { contribution, status: Status::Refunded, credit: Pension(0), refund: contribution };
+    for payer in [Payer::Member, Payer::Employer] {
+        let terms = Terms { payer, ..LUMP_SUM };
+        assert_eq!([&[][..], &[PAID], &[PAID; 12]].map(|marks| settle(&terms, marks)), [Ok(credited); 3]);
+        assert_eq!([&[ENDED][..], &[PAID, ENDED], &[ENDED; 12]].map(|marks| settle(&terms, marks)), [Ok(refunded); 3]);
+        assert_eq!(settle(&terms, &[[PAID; 6], [ENDED; 6]].concat()), Ok(refunded));
+    }
+    let refused = |marks: &[u8]| settle(&LUMP_SUM, marks).unwrap_err();
+    assert_eq!(refused(&[PAID; 13]), Refusal::TooManyMarks);
+    assert_eq!(refused(&[MISSED; 13]), Refusal::TooManyMarks);
+    assert_eq!(refused(&[PAID, 3]), Refusal::UnknownMark { place: 1 });
+    assert_eq!(refused(&[MISSED]), Refusal::UnlawfulMark { place: 0 });
+    assert_eq!(refused(&[PAID, PAID, MISSED]), Refusal::UnlawfulMark { place: 2 });
+    assert_eq!(refused(&[PAID, ENDED, PAID]), Refusal::UnlawfulMark { place: 2 });
+}
+
 #[test]
 fn a_pay_off() {
     let paid_off = pay_off(&TERMS, &[PAID; 18], 51, 1_011).unwrap();
@@ -101,22 +124,23 @@ fn refusals() {
 /// Each of them is wrong in everything that comes after its refusal too.
 #[test]
 fn refused_pay_offs() {
-    let lump_sum = Terms { term: 0, ..TERMS };
     let refused = [
         pay_off(&Terms { age: 60, ..TERMS }, &[], 65, 999).unwrap_err(),
         pay_off(&TERMS, &[PAID, 3], 65, 999).unwrap_err(),
         pay_off(&TERMS, &[], 65, 999).unwrap_err(),
         pay_off(&TERMS, &[PAID, ENDED], 65, 10_000).unwrap_err(),
-        pay_off(&lump_sum, &[], u32::MAX, u32::MAX).unwrap_err(),
+        pay_off(&LUMP_SUM, &[], u32::MAX, u32::MAX).unwrap_err(),
+        pay_off(&LUMP_SUM, &[PAID, ENDED], u32::MAX, u32::MAX).unwrap_err(),
+        pay_off(&LUMP_SUM, &[PAID, MISSED], u32::MAX, u32::MAX).unwrap_err(),
         pay_off(&TERMS, &[PAID; 18], 65, 999).unwrap_err(),
         pay_off(&TERMS, &[PAID; 60], 15, 10_000).unwrap_err(),
         pay_off(&TERMS, &[PAID; 18], 15, 1_000).unwrap_err(),
         pay_off(&TERMS, &[PAID; 60], 65, 9_999).unwrap_err(),
     ];
-    assert_eq!(refused.map(|refusal| refusal.number()), [5, 11, 16, 16, 16, 17, 17, 5, 5]);
+    assert_eq!(refused.map(|refusal| refusal.number()), [5, 11, 16, 16, 16, 16, 12, 17, 17, 5, 5]);
     assert_eq!(refused[1], Refusal::UnknownMark { place: 1 });
     assert_eq!(refused[2].to_string(), "the contract has nothing to pay off");
-    assert_eq!(refused[5].to_string(), "the increase is outside its range");
+    assert_eq!(refused[7].to_string(), "the increase is outside its range");
 }
 
 #[test]

@@ -48,7 +48,7 @@ const fn kind(name: &'static str, call: Call, marks: usize, odd: bool, refusal: 
     Kind { name, call, marks, odd, refusal, change }
 }
 
-const KINDS: [Kind; 24] = [
+const KINDS: [Kind; 25] = [
     kind("settle, 5 marks, whole", Call::Settle, 5, false, 0, as_it_is),
     kind("settle, 5 marks, odd", Call::Settle, 5, true, 0, as_it_is),
     kind("settle, 28 marks, whole", Call::Settle, 28, false, 0, as_it_is),
@@ -61,6 +61,7 @@ const KINDS: [Kind; 24] = [
         contract.marks.iter_mut().skip(2).step_by(4).for_each(|mark| *mark = 0);
     }),
     kind("settle, lump sum", Call::Settle, 0, false, 0, lump_sum),
+    kind("settle, lump sum, 12 marks", Call::Settle, 12, false, 0, lump_sum),
     kind("settle, refused 1", Call::Settle, 60, false, 1, |contract| contract.terms.option = 3),
     kind("settle, refused 7", Call::Settle, 60, false, 7, |contract| contract.terms.amount += 1),
     kind("settle, refused 10", Call::Settle, 241, false, 10, as_it_is),

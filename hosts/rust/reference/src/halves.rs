@@ -63,11 +63,10 @@ impl HalvesUp<'_> {
 
     /// The credit, in pence a year.
     pub fn credit(&self, terms: &Terms, marks: &[u8]) -> u64 {
-        if terms.term == 0 {
-            return terms.amount_pence();
-        }
-        if status(terms.term, marks) == 5 {
-            return 0;
+        match status(terms.term, marks) {
+            5 => return 0,
+            6 => return terms.amount_pence(),
+            _ => (),
         }
         let paid = |month: usize| marks.get(month) == Some(&PAID);
         self.between_tables(Place::CombinedCredit, terms, |pension_age| {

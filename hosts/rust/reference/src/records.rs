@@ -1,5 +1,6 @@
 //! Contract records: posting a month, and a member's total.
 
+use crate::marks::most_marks;
 use crate::settle::{settle, Settlement};
 use crate::terms::Terms;
 use crate::Outcome;
@@ -41,7 +42,7 @@ pub fn post(record: &mut Record, mark: u8) -> Outcome {
         return Outcome { refusal: 13, place: 0 };
     }
     let count = record.count as usize;
-    if count == 12 * record.terms.term as usize {
+    if count == most_marks(record.terms.term) {
         return Outcome { refusal: 10, place: 0 };
     }
     let mut posted = *record;

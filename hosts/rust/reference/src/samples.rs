@@ -172,7 +172,7 @@ pub fn runs(runs: &[(usize, u8)]) -> Vec<u8> {
     runs.iter().flat_map(|&(count, mark)| std::iter::repeat_n(mark, count)).collect()
 }
 
-/// Lawful marks, just so many: paid runs, gaps, a lapse or a notice.
+/// Lawful marks of a monthly contract, just so many: paid runs, gaps, a lapse or a notice.
 pub fn lawful_marks(random: &mut Random, count: usize) -> Vec<u8> {
     let longest_run = random.pick(&[3, 15, 40, 300]);
     let lapses = random.one_in(4);
@@ -217,8 +217,41 @@ fn count(random: &mut Random, term: u32) -> usize {
     .expect("a count of months is small")
 }
 
-/// Marks for a contract of this term: some with a gap about as long as may be, one in three damaged.
-pub fn marks(random: &mut Random, term: u32) -> Vec<u8> {
+/// Spoils up to three marks.
+fn damage_marks(random: &mut Random, marks: &mut [u8]) {
+    for _ in 0..random.from_to(1, 3) {
+        let index = random.from_to(0, marks.len() as u32 - 1) as usize;
+        marks[index] = match random.from_to(0, 7) {
+            0 => random.byte(),
+            1 => random.from_to(3, 9) as u8,
+            _ => random.from_to(0, 2) as u8,
+        };
+    }
+}
+
+/// Lawful marks of a lump sum, from none to twelve: months that have elapsed, in half of the lists the months since leaving too.
+pub fn lawful_lump_sum_marks(random: &mut Random) -> Vec<u8> {
+    let count = random.from_to(0, 12);
+    let left = if random.one_in(2) { random.from_to(0, count) } else { 0 };
+    runs(&[((count - left) as usize, PAID), (left as usize, ENDED)])
+}
+
+/// Marks for a lump sum: one in three lists damaged, one in eight with more marks than it may have.
+fn lump_sum_marks(random: &mut Random) -> Vec<u8> {
+    let mut marks = lawful_lump_sum_marks(random);
+    if !marks.is_empty() && random.one_in(3) {
+        damage_marks(random, &mut marks);
+    }
+    if random.one_in(8) {
+        let count = random.pick(&[13, 13, 14, 24, 240, 300]);
+        let last = random.pick(&[PAID, ENDED]);
+        marks.resize(count, last);
+    }
+    marks
+}
+
+/// Marks for a monthly contract: some with a gap about as long as may be, one list in three damaged.
+fn monthly_marks(random: &mut Random, term: u32) -> Vec<u8> {
     let count = count(random, term);
     let mut marks = lawful_marks(random, count);
     if count > 14 && random.one_in(16) {
@@ -228,16 +261,26 @@ pub fn marks(random: &mut Random, term: u32) -> Vec<u8> {
         marks[start + gap] = PAID;
     }
     if count > 0 && random.one_in(3) {
-        for _ in 0..random.from_to(1, 3) {
-            let index = random.from_to(0, count as u32 - 1) as usize;
-            marks[index] = match random.from_to(0, 7) {
-                0 => random.byte(),
-                1 => random.from_to(3, 9) as u8,
-                _ => random.from_to(0, 2) as u8,
-            };
-        }
+        damage_marks(random, &mut marks);
     }
     marks
+}
+
+/// Marks for a contract of this term, lawful and damaged.
+pub fn marks(random: &mut Random, term: u32) -> Vec<u8> {
+    match term {
+        0 => lump_sum_marks(random),
+        years => monthly_marks(random, years),
+    }
+}
+
+/// As many lawful marks as a contract of this term may have, or fewer.
+pub fn some_lawful_marks(random: &mut Random, term: u32) -> Vec<u8> {
+    if term == 0 {
+        return lawful_lump_sum_marks(random);
+    }
+    let count = random.from_to(0, 12 * term) as usize;
+    lawful_marks(random, count)
 }
 
 /// The terms and marks of a monthly contract that Settle takes.

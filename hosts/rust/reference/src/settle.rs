@@ -2,7 +2,7 @@
 
 use crate::bytes_of;
 use crate::credit::credit;
-use crate::marks::{first_bad, paid, status};
+use crate::marks::{first_bad, most_marks, paid, status};
 use crate::terms::Terms;
 
 /// What settling a contract gives.
@@ -34,18 +34,20 @@ pub fn settle(terms: &Terms, marks: &[u8]) -> Settlement {
     if refusal != 0 {
         return Settlement::refused(refusal, 0);
     }
-    if marks.len() > 12 * terms.term as usize {
+    if marks.len() > most_marks(terms.term) {
         return Settlement::refused(10, 0);
     }
-    if let Some((refusal, place)) = first_bad(marks) {
+    if let Some((refusal, place)) = first_bad(terms.term, marks) {
         return Settlement::refused(refusal, place);
     }
-    let settled = Settlement { contribution: terms.contribution(), ..Settlement::default() };
-    if terms.term == 0 {
-        return Settlement { status: 6, credit: terms.amount_pence(), ..settled };
-    }
-    match status(terms.term, marks) {
-        5 => Settlement { status: 5, refund: settled.contribution * paid(marks) as u64, ..settled },
-        status => Settlement { status, credit: credit(terms, marks), ..settled },
-    }
+    let contribution = terms.contribution();
+    let status = status(terms.term, marks);
+    let (credit, refund) = match status {
+        // A lump sum was paid once, however many months have elapsed.
+        5 if terms.term == 0 => (0, contribution),
+        5 => (0, contribution * paid(marks) as u64),
+        6 => (terms.amount_pence(), 0),
+        _ => (credit(terms, marks), 0),
+    };
+    Settlement { contribution, status, credit, refund, ..Settlement::default() }
 }

@@ -34,7 +34,25 @@ fn sound_lines() {
     assert_eq!(listed(with(29, "11119")), "     1 11   4 0         0         0         0\n");
     assert_eq!(listed(with(29, "01111")), "     1 12   0 0         0         0         0\n");
     assert_eq!(listed(with(15, " 0")), "     1  1   0 0         0         0         0\n");
-    assert_eq!(listed(with(19, "  0")), "     1 10   0 0         0         0         0\n");
+    assert_eq!(listed(with(19, "  0")), "     1  0   0 6   1455000    125000         0\n");
+}
+
+#[test]
+fn lines_of_lump_sums() {
+    let lump_sum = |payer: u32, marks: &str| listed(format!("     6 40 67  0 1 {payer}  0   2000{marks}"));
+    for payer in 1..=2 {
+        for marks in ["", "1", "11111111111", "111111111111"] {
+            assert_eq!(lump_sum(payer, marks), "     6  0   0 6   1664000    200000         0\n");
+        }
+        for marks in ["2", "12", "111111111112", "222222222222"] {
+            assert_eq!(lump_sum(payer, marks), "     6  0   0 5   1664000         0   1664000\n");
+        }
+        assert_eq!(lump_sum(payer, "0"), "     6 12   0 0         0         0         0\n");
+        assert_eq!(lump_sum(payer, "11111111110"), "     6 12  10 0         0         0         0\n");
+        assert_eq!(lump_sum(payer, "1121"), "     6 12   3 0         0         0         0\n");
+        assert_eq!(lump_sum(payer, "1129"), "     6 11   3 0         0         0         0\n");
+        assert_eq!(lump_sum(payer, "1111111111111"), "     6 10   0 0         0         0         0\n");
+    }
 }
 
 #[test]

@@ -123,7 +123,9 @@ fn five_years_paid_off() {
 fn five_years_not_paid_off() {
     assert_eq!(rest_of_five_years(&[], 51), not_paid_off(16));
     assert_eq!(rest_of_five_years(&[(11, 1), (1, 2)], 51), not_paid_off(16));
-    assert_eq!(pay_off(&Terms { term: 0, ..FIVE_YEARS }, &[], 51, 1_011), not_paid_off(16));
+    for marks in [&[][..], &[1], &[1, 2], &[2; 12]] {
+        assert_eq!(pay_off(&Terms { term: 0, ..FIVE_YEARS }, marks, 51, 1_011), not_paid_off(16));
+    }
     for increase in [0, 999, 10_000, u32::MAX] {
         assert_eq!(pay_off(&FIVE_YEARS, &[1; 18], 51, increase), not_paid_off(17));
     }

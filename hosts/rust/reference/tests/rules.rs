@@ -12,6 +12,9 @@ const SEED: u64 = 2015;
 const TERMS: Terms =
     Terms { age: 50, pension_age_years: 65, pension_age_months: 0, option: 2, payer: 1, term: 5, amount: 1_000 };
 
+/// Marks as runs: how many, and which.
+type Runs = &'static [(usize, u8)];
+
 #[test]
 fn tables_keep_the_print_rule_and_never_rise_along_a_row_or_fall_down_a_column() {
     let mut printed = 0;
@@ -98,13 +101,154 @@ fn lump_sums() {
     let settled = settle(&lump_sum, &[]);
     assert_eq!(settled, Settlement { contribution: 4 * 4_560_00, status: 6, credit: 1_000_00, ..Settlement::default() });
     assert_eq!(settle(&Terms { pension_age_months: 7, ..lump_sum }, &[]), settled);
-    assert_eq!(settle(&lump_sum, &[3]).refusal, 10);
     assert_eq!(settle(&Terms { age: 65, ..lump_sum }, &[]).refusal, 5);
     assert_eq!(settle(&Terms { age: 15, ..lump_sum }, &[]).refusal, 5);
 }
 
+/// £1,000 by lump sum from 64, with dependant's pension, and what that costs.
+const LUMP_SUM: Terms = Terms { term: 0, age: 64, ..TERMS };
+const LUMP_SUM_COST: u64 = 4 * 4_560_00;
+
+/// What is lawful of a lump sum's first year: so many months elapsed, then so many from leaving on.
+fn first_years() -> impl Iterator<Item = (usize, usize)> {
+    (0..=12).flat_map(|elapsed| (0..=12 - elapsed).map(move |left| (elapsed, left)))
+}
+
+#[test]
+fn a_lump_sum_goes_back_whole_where_the_member_left() {
+    for (payer, pension_age_months) in [(1, 0), (1, 7), (2, 0), (2, 7)] {
+        let terms = Terms { payer, pension_age_months, ..LUMP_SUM };
+        let settled = Settlement { contribution: LUMP_SUM_COST, ..Settlement::default() };
+        let credited = Settlement { status: 6, credit: 1_000_00, ..settled };
+        let refunded = Settlement { status: 5, refund: LUMP_SUM_COST, ..settled };
+        for (elapsed, left) in first_years() {
+            let expected = if left > 0 { refunded } else { credited };
+            assert_eq!(settle(&terms, &samples::runs(&[(elapsed, 1), (left, 2)])), expected, "{terms:?} {elapsed} {left}");
+        }
+    }
+    let dearest = Terms { amount: 6_500, payer: 2, ..LUMP_SUM };
+    assert_eq!(settle(&dearest, &[1; 12]).credit, 6_500_00);
+    assert_eq!(settle(&dearest, &[2; 12]).refund, 118_560_00);
+    let cheapest = Terms { amount: 250, age: 16, option: 1, ..LUMP_SUM };
+    assert_eq!(settle(&cheapest, &[2]).refund, settle(&cheapest, &[1]).contribution);
+}
+
+#[test]
+fn bad_marks_of_a_lump_sum() {
+    let bad: [(Runs, u32, u32); 15] = [
+        (&[(1, 0)], 12, 0),
+        (&[(1, 0), (11, 1)], 12, 0),
+        (&[(1, 0), (1, 3)], 12, 0),
+        (&[(5, 1), (1, 0), (6, 1)], 12, 5),
+        (&[(11, 1), (1, 0)], 12, 11),
+        (&[(1, 2), (1, 0)], 12, 1),
+        (&[(1, 2), (1, 1)], 12, 1),
+        (&[(5, 1), (1, 2), (1, 1), (1, 3)], 12, 6),
+        (&[(5, 1), (6, 2), (1, 1)], 12, 11),
+        (&[(5, 1), (6, 2), (1, 0)], 12, 11),
+        (&[(1, 3)], 11, 0),
+        (&[(1, 3), (1, 0)], 11, 0),
+        (&[(4, 1), (1, 2), (1, 9), (1, 1)], 11, 5),
+        (&[(11, 1), (1, 255)], 11, 11),
+        (&[(11, 2), (1, 3)], 11, 11),
+    ];
+    for (runs, refusal, place) in bad {
+        let refused = Settlement { refusal, place, ..Settlement::default() };
+        for payer in 1..=2 {
+            assert_eq!(settle(&Terms { payer, ..LUMP_SUM }, &samples::runs(runs)), refused, "{runs:?}");
+        }
+    }
+    // Too many are refused before any of them is looked at, and after the terms.
+    let too_many: [Runs; 7] =
+        [&[(13, 1)], &[(12, 1), (1, 2)], &[(13, 2)], &[(13, 0)], &[(13, 3)], &[(12, 3), (1, 1)], &[(240, 1)]];
+    for marks in too_many.map(samples::runs) {
+        assert_eq!(settle(&LUMP_SUM, &marks), Settlement { refusal: 10, ..Settlement::default() });
+        assert_eq!(settle(&Terms { amount: 6_750, ..LUMP_SUM }, &marks), Settlement { refusal: 8, ..Settlement::default() });
+    }
+    // As many are lawful of a contract of a year or more.
+    assert_eq!(settle(&Terms { term: 2, age: 50, ..TERMS }, &[1; 13]).refusal, 0);
+}
+
+#[test]
+fn the_first_year_of_a_lump_sum_is_posted() {
+    for (elapsed, left) in first_years() {
+        let mut record = Record::new(LUMP_SUM);
+        let history = samples::runs(&[(elapsed, 1), (left, 2)]);
+        for (count, &mark) in history.iter().enumerate() {
+            let at_count = |refusal| Outcome { refusal, place: count as u32 };
+            let before = record;
+            assert_eq!([0, 3, 255].map(|bad| post(&mut record, bad)), [12, 11, 11].map(at_count));
+            if count > elapsed {
+                assert_eq!(post(&mut record, 1), at_count(12));
+            }
+            assert_eq!(record, before);
+            assert_eq!(post(&mut record, mark), Outcome { refusal: 0, place: 0 });
+        }
+        assert_eq!((record.count as usize, &record.marks[..history.len()]), (elapsed + left, &history[..]));
+        assert_eq!(record.settled(), Some(settle(&LUMP_SUM, &history)));
+        if elapsed + left == 12 {
+            let full = record;
+            assert_eq!([0, 1, 2, 3].map(|mark| post(&mut record, mark)), [Outcome { refusal: 10, place: 0 }; 4]);
+            assert_eq!(record, full);
+        }
+    }
+}
+
+#[test]
+fn the_schedule_of_a_lump_sum() {
+    for (elapsed, left) in first_years() {
+        let mut list = [7; 14];
+        let marks = samples::runs(&[(elapsed, 1), (left, 2)]);
+        assert_eq!(schedule(&LUMP_SUM, &marks, &mut list), Outcome { refusal: 0, place: 0 });
+        assert_eq!(list[..elapsed], vec![1_000_00; elapsed]);
+        assert_eq!(list[elapsed..elapsed + left], vec![0; left]);
+        assert_eq!(list[elapsed + left..], vec![7; 14 - elapsed - left]);
+    }
+    let refused = |marks: &[u8]| {
+        let mut list = [7; 12];
+        let outcome = schedule(&LUMP_SUM, marks, &mut list);
+        assert_eq!(list, [7; 12]);
+        (outcome.refusal, outcome.place)
+    };
+    assert_eq!([&[1, 1, 0][..], &[2, 1], &[1, 3], &[1; 13]].map(refused), [(12, 2), (12, 1), (11, 1), (10, 0)]);
+    assert_eq!(schedule(&LUMP_SUM, &[1, 2], &mut [7]), Outcome { refusal: 14, place: 0 });
+}
+
+#[test]
+fn a_lump_sum_is_never_paid_off() {
+    for (elapsed, left) in first_years() {
+        let marks = samples::runs(&[(elapsed, 1), (left, 2)]);
+        for (age_now, increase) in [(64, 1_011), (65, 1_000), (65, 999), (15, u32::MAX)] {
+            let refused = pay_off(&LUMP_SUM, &marks, age_now, increase);
+            assert_eq!(refused, PayOff { refusal: 16, ..PayOff::default() });
+        }
+    }
+    let refused = |marks: &[u8]| pay_off(&LUMP_SUM, marks, 65, 999);
+    assert_eq!(refused(&[1, 0]), PayOff { refusal: 12, place: 1, ..PayOff::default() });
+    assert_eq!(refused(&[1, 2, 3]), PayOff { refusal: 11, place: 2, ..PayOff::default() });
+    assert_eq!(refused(&[1; 13]), PayOff { refusal: 10, ..PayOff::default() });
+}
+
+#[test]
+fn the_first_bad_mark_of_a_lump_sum_ends_a_lawful_beginning() {
+    // In every list of up to five marks: the shortest beginning that is not elapsed months and then months since leaving.
+    for count in 0..=5 {
+        for list in 0..4_u32.pow(count) {
+            let marks: Vec<u8> = (0..count).map(|month| (list >> (2 * month) & 3) as u8).collect();
+            let is_lawful = |beginning: &[u8]| {
+                let elapsed = beginning.iter().take_while(|&&mark| mark == 1).count();
+                beginning[elapsed..].iter().all(|&mark| mark == 2)
+            };
+            let bad = (0..marks.len()).find(|&index| !is_lawful(&marks[..=index]));
+            let expected = bad.map(|index| (if marks[index] > 2 { 11 } else { 12 }, index as u32));
+            assert_eq!(first_bad(0, &marks), expected, "{marks:?}");
+        }
+    }
+}
+
 #[test]
 fn the_first_bad_mark_decides() {
+    let first_bad = |marks: &[u8]| first_bad(5, marks);
     assert_eq!(first_bad(&[]), None);
     assert_eq!(first_bad(&[1, 2, 2]), None);
     assert_eq!(first_bad(&[3]), Some((11, 0)));
@@ -128,8 +272,6 @@ fn the_first_bad_mark_decides() {
     twice.push(1);
     assert_eq!(first_bad(&twice), None);
 }
-
-type Runs = &'static [(usize, u8)];
 
 #[test]
 fn statuses() {
@@ -326,9 +468,10 @@ fn what_remains_and_what_it_costs() {
     let mut statuses = [0; 7];
     for _ in 0..100_000 {
         let terms = samples::lawful_terms(&mut random);
-        let elapsed = random.from_to(0, 12 * terms.term);
-        let count = random.pick(&[elapsed, 12 * terms.term]) as usize;
-        let marks = samples::lawful_marks(&mut random, count);
+        let mut marks = samples::some_lawful_marks(&mut random, terms.term);
+        if terms.term > 0 && random.one_in(2) {
+            marks = samples::lawful_marks(&mut random, 12 * terms.term as usize);
+        }
         let settled = settle(&terms, &marks);
         let paid_off = pay_off(&terms, &marks, random.from_to(16, 64), random.from_to(1_000, 9_999));
         assert_eq!(settled.refusal, 0);
@@ -387,6 +530,7 @@ fn schedule_can_fall_to_nothing_at_an_early_notice() {
 fn posting_builds_what_settle_accepts() {
     let mut random = Random::new(SEED);
     let mut seen = [0; 15];
+    let mut of_lump_sums = [0; 15];
     for _ in 0..2_000 {
         let terms = samples::terms(&mut random);
         let marks = samples::marks(&mut random, terms.term);
@@ -395,6 +539,7 @@ fn posting_builds_what_settle_accepts() {
             let before = record;
             let outcome = post(&mut record, mark);
             seen[outcome.refusal as usize] += 1;
+            of_lump_sums[outcome.refusal as usize] += u32::from(terms.term == 0);
             let settled = settle(&terms, &marks[..=count]);
             if outcome.refusal == 0 {
                 assert_eq!(settled.refusal, 0);
@@ -410,7 +555,9 @@ fn posting_builds_what_settle_accepts() {
             break;
         }
     }
-    assert!([0, 10, 11, 12, 13].iter().all(|&refusal| seen[refusal] > 0), "{seen:?}");
+    for refusal in [0, 10, 11, 12, 13] {
+        assert!(seen[refusal] > of_lump_sums[refusal] && of_lump_sums[refusal] > 0, "{seen:?} {of_lump_sums:?}");
+    }
 }
 
 #[test]
@@ -441,8 +588,41 @@ fn a_full_record_is_refused_10() {
     for mark in [1, 7] {
         assert_eq!(post(&mut record, mark), Outcome { refusal: 10, place: 0 });
     }
-    let mut lump_sum = Record::new(Terms { term: 0, ..TERMS });
-    assert_eq!(post(&mut lump_sum, 7), Outcome { refusal: 10, place: 0 });
+    let mut lump_sum = Record::new(LUMP_SUM);
+    assert_eq!(post(&mut lump_sum, 7), Outcome { refusal: 11, place: 0 });
+    lump_sum.marks[..12].fill(1);
+    lump_sum.count = 12;
+    for mark in [0, 1, 2, 7] {
+        assert_eq!(post(&mut lump_sum, mark), Outcome { refusal: 10, place: 0 });
+    }
+}
+
+/// A contract with these marks, whatever they are.
+fn record(terms: Terms, used: &[u8]) -> Record {
+    let mut record = Record { count: used.len() as u32, ..Record::new(terms) };
+    record.marks[..used.len()].copy_from_slice(used);
+    record
+}
+
+#[test]
+fn records_of_lump_sums() {
+    let paid = record(TERMS, &[1; 18]);
+    for (elapsed, left) in first_years() {
+        let sound = record(LUMP_SUM, &samples::runs(&[(elapsed, 1), (left, 2)]));
+        let credit = if left > 0 { 0 } else { 1_000_00 };
+        assert_eq!(member_total(&[sound, paid, sound]), MemberTotal { total: 2 * credit + 327_98, ..MemberTotal::default() });
+        // The same marks, of which the last is not in use.
+        let unused = Record { count: sound.count.saturating_sub(1), ..sound };
+        let is_bad = sound.count > 0;
+        assert_eq!(member_total(&[paid, unused]).refusal, if is_bad { 13 } else { 0 });
+    }
+    let bad: [&[u8]; 8] = [&[0], &[1, 0], &[2, 1], &[2, 0], &[1, 3], &[1; 13], &[2; 13], &[1; 240]];
+    for bad in bad.map(|marks| record(LUMP_SUM, marks)) {
+        assert_eq!(member_total(&[paid, bad]), MemberTotal { refusal: 13, index: 1, total: 0 });
+        let mut posted = bad;
+        assert_eq!([0, 1, 2, 3].map(|mark| post(&mut posted, mark)), [Outcome { refusal: 13, place: 0 }; 4]);
+        assert_eq!(posted, bad);
+    }
 }
 
 #[test]
