@@ -1,4 +1,4 @@
--- "Marks and status", M8 to M14: the status of a contract, 0 to 6.
+-- "Marks and status", M8 to M14 and M16: the status of a contract, 0 to 6.
 -- Assumes nothing.
 use Rattle.std.specs.Prelude.{◌&&◌, List, ℕ, ◌*◌, ltb, leb, eqb, length}
 use Rattle.common.specs.Choice.{pick}
@@ -10,7 +10,7 @@ use Rattle.marks.specs.Counts.{last_or, are_all_paid, has_ended, paid_through, f
 unfoldable pub stopped_of : (b : ℕ) → ℕ
 stopped_of b = pick (leb ceased_from b) 4 5
 
--- M8 to M14: the status under a term in years, 0 for a lump sum, of lawful marks
+-- M8 to M14, M16: the status under a term in years, 0 for a lump sum, of lawful marks
 unfoldable pub status_of : (open_months term : ℕ) (marks : List ℕ) → ℕ
 status_of open_months term ms =
     pick (eqb term 0) (pick (has_ended ms) 5 6)

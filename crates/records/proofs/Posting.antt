@@ -3,7 +3,7 @@
 use mathlib.Core.Bool.{true, false}
 use mathlib.Core.List.{List, [], ◌∷◌, ◌++◌}
 use mathlib.Core.Path.{◌≡◌, sym, ap, ◌∙◌}
-use Prim.Native.Nat.{ℕ, ◌+◌, ◌*◌, ◌<◌, ◌≤◌}
+use Prim.Native.Nat.{ℕ, ◌+◌, ◌<◌, ◌≤◌}
 use native.Mathlib.Omega.{arith}
 use borrow.Author.Tests.{lt-ltb, eq-eqb, ne_eqb}
 use lib.ListN.{length, get_or}
@@ -12,7 +12,7 @@ use Rattle.common.proofs.Tests.{by_test}
 use Rattle.scheme.specs.Scheme.{open_months, most_marks}
 use Rattle.terms.specs.declared.Terms.{Terms}
 use Rattle.marks.specs.Reading.{ReadSoFar, count_up, step_by, marks_reading}
-use Rattle.marks.specs.Kind.{kind_of, mark_limit}
+use Rattle.marks.specs.Kind.{mark_limit}
 use Rattle.marks.specs.Refusal.{marks_refusal}
 use Rattle.marks.proofs.Lists.{length_last}
 use Rattle.marks.proofs.Term.{too_many_marks, marks_number, marks_place, marks_last}

@@ -25,7 +25,7 @@ most_lump_sum = most_steps * most_lump_sum_rate
 abbrev pub most_contribution : ℕ
 most_contribution = max most_monthly_contribution most_lump_sum
 
--- O3: no refund is larger than £118,560: neither the months before a contract has ceased cost more, nor a lump sum
+-- O3: the largest refund, £118,560: the months before a contract has ceased cost less than a lump sum
 abbrev pub most_refund : ℕ
 most_refund = max ((ceased_from - 1) * most_monthly_contribution) most_lump_sum
 

@@ -1,24 +1,20 @@
 -- A lump sum is settled as its rules say: all of the amount while there is no 2 among its marks, else all of it goes back.
 -- Assumes nothing.
-use mathlib.Core.Bool.{Bool, true, false}
-use mathlib.Core.List.{List, ◌∷◌, ◌++◌}
-use mathlib.Core.Logic.{◌⊎◌, inl, inr}
-use mathlib.Core.Path.{◌≡◌, refl, sym, ap, subst, ◌∙◌}
+use mathlib.Core.Bool.{true, false}
+use mathlib.Core.List.{List}
+use mathlib.Core.Logic.{inl, inr}
+use mathlib.Core.Path.{◌≡◌, refl, sym, subst, ◌∙◌}
 use Prim.Native.Nat.{ℕ, ◌*◌, ◌≤◌, ◌<◌}
 use native.Mathlib.Omega.{arith}
 use borrow.Author.Tests.{eq-eqb}
-use lib.Dec.{eqb}
-use Rattle.common.specs.Choice.{pick}
 use Rattle.common.proofs.Tests.{by_test, never}
 use Rattle.scheme.specs.Scheme.{pounds_in_pence, open_months}
 use Rattle.terms.specs.declared.Terms.{Terms}
 use Rattle.election.specs.ContributionOf.{contribution_of}
 use Rattle.election.proofs.Laws.{contribution_least}
 use Rattle.marks.specs.Counts.{has_ended, payments_of}
-use Rattle.marks.specs.Status.{status_of}
 use Rattle.marks.proofs.Counts.{ended_stands, stands_ended}
 use Rattle.marks.proofs.StatusOf.{ended_status, running_status}
-use Rattle.examination.specs.Refusal.{settle_refusal}
 use Rattle.examination.proofs.Laws.{settled_terms}
 use Rattle.settlement.specs.Settle.{SettleNumbers, credit_at_status, refund_at_status, settled_numbers, settle_of}
 use Rattle.settlement.specs.LumpSum.{LumpSumSettled, LumpSumAnswered}

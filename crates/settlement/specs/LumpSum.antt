@@ -1,11 +1,11 @@
--- "Marks and status", M13 to M15: a lump sum by its marks.
+-- "Marks and status", M14 and M16: a lump sum by its marks.
 -- Assumes nothing.
 use Rattle.std.specs.Prelude.{List, ◌∷◌, ◌++◌, ◌⊎◌, ◌≡◌, ℕ}
 use Rattle.scheme.specs.Scheme.{pounds_in_pence}
 use Rattle.terms.specs.declared.Terms.{Terms}
 use Rattle.settlement.specs.Settle.{SettleNumbers}
 
--- M13 to M15: the numbers n settle a lump sum for its marks as these rules say
+-- M14, M16: the numbers n settle a lump sum for its marks as these rules say
 pub record LumpSumSettled (t : Terms) (marks : List ℕ) (n : SettleNumbers) : Type 0 where
   -- with no 2 among the marks all of the amount is credited, and nothing goes back
   pub stays : ((xs ys : List ℕ) → marks ≡ xs ++ (2 ∷ ys) → ⊥)
@@ -18,6 +18,6 @@ pub record LumpSumSettled (t : Terms) (marks : List ℕ) (n : SettleNumbers) : T
   pub refunded : n.credit ≡ 0 → (n.status ≡ 5) × (n.refund ≡ n.contribution)
   pub credited : n.refund ≡ n.contribution → n.credit ≡ 0
 
--- M13 to M15: of any terms and marks, where a lump sum is not refused
+-- M14, M16: of any terms and marks, where a lump sum is not refused
 abbrev pub LumpSumAnswered : Terms → (marks : List ℕ) → SettleNumbers → Type 0
 LumpSumAnswered t marks n = n.refusal ≡ 0 → t.term ≡ 0 → LumpSumSettled t marks n

@@ -1,4 +1,4 @@
--- "Settle", O8 to O10, with M13 and M14.
+-- "Settle", O8 to O10, with M13, M14 and M16.
 -- Assumes nothing.
 use Rattle.std.specs.Prelude.{Result, Ok, Err, List, ℕ, ◌*◌, eqb}
 use Rattle.common.specs.Choice.{pick}
@@ -23,11 +23,11 @@ pub record SettleNumbers : Type 0 where
   pub credit : ℕ
   pub refund : ℕ
 
--- M13, M14: nothing when refunded; a lump sum is credited in full; else what the paid runs earned
+-- M13, M14, M16: nothing when refunded; a lump sum is credited in full; else what the paid runs earned
 unfoldable pub credit_at_status : Terms → (marks : List ℕ) (status : ℕ) → ℕ
 credit_at_status t marks status = pick (eqb status 5) 0 (pick (eqb status 6) (pounds_in_pence t.amount) (credit_of t marks))
 
--- M13: each contribution that was paid when refunded, for each paid month or the lump sum once, else nothing
+-- M13, M16: each contribution that was paid when refunded, for each paid month or the lump sum once, else nothing
 unfoldable pub refund_at_status : Terms → (marks : List ℕ) (status : ℕ) → ℕ
 refund_at_status t marks status = pick (eqb status 5) (contribution_of t * payments_of t.term marks) 0
 

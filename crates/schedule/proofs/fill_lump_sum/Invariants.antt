@@ -1,6 +1,5 @@
 -- `schedule::fill_lump_sum` meets its contract. After i marks i entries are written.
 -- Assumes nothing.
-use Prim.Native.Nat.{ℕ}
 use mathlib.Core.Path.{◌≡◌}
 use Rattle.common.proofs.Written.{Written}
 use Rattle.scheme.specs.Scheme.{pounds_in_pence}

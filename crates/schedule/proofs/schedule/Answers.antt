@@ -5,15 +5,13 @@ use mathlib.Core.Path.{◌≡◌, sym, ap, ◌∙◌}
 use Prim.Native.Nat.{ℕ, ◌≤◌, ◌<◌}
 use native.Mathlib.Omega.{arith}
 use lib.ListN.{length}
-use borrow.Author.Tests.{eq-eqb, eqb-true, eqb-false, ne_eqb, lt-ltb, le-ltb}
+use borrow.Author.Tests.{eq-eqb, ne_eqb, lt-ltb, le-ltb}
 use Rattle.std.proofs.lemmas.Result.{err_from_is_err_and}
-use Rattle.common.specs.Table.{tabulate}
 use Rattle.refusals.specs.declared.Refused.{Refused}
 use Rattle.refusals.specs.Numbers.{refusal_number}
 use Rattle.refusals.specs.Places.{RefusedAt, refusing}
 use Rattle.refusals.proofs.Numbers.{refusal_positive}
 use Rattle.terms.specs.declared.Terms.{Terms}
-use Rattle.examination.proofs.Laws.{settled_marks}
 use Rattle.examination.specs.Refusal.{settle_refusal}
 use Rattle.settlement.specs.Settle.{settle_of}
 use Rattle.settlement.proofs.Laws.{settle_refused, settle_refusal_lem}

@@ -5,14 +5,14 @@ use mathlib.Core.Path.{◌≡◌, sym, ap, subst, ◌∙◌}
 use Prim.Native.Nat.{ℕ, suc, ◌+◌, ◌≤◌, ◌<◌}
 use native.Mathlib.Omega.{arith}
 use lib.ListN.{length, take, get_or}
-use Rattle.common.proofs.Written.{Written, written_none, written_more, written_list}
+use Rattle.common.proofs.Written.{written_none, written_more}
 use Rattle.terms.specs.declared.Terms.{Terms}
 use Rattle.scheme.specs.Scheme.{pounds_in_pence}
 use Rattle.money.specs.Money.{pension}
 use Rattle.money.specs.declared.PensionPence.{PensionPence}
 use Rattle.examination.specs.Refusal.{settle_refusal}
 use Rattle.settlement.proofs.Bounds.{settle_credit_most}
-use Rattle.schedule.specs.Schedule.{entry_of, filled_of}
+use Rattle.schedule.specs.Schedule.{entry_of}
 use Rattle.schedule.specs.Walk.{WalkSoFar, step_walk, walk_of, held_of, Holdable}
 use Rattle.schedule.specs.declared.YearRows.{YearRows}
 use Rattle.schedule.proofs.Laws.{walk_starts, walk_more, walk_months, holds, entry_held, all_written}
