@@ -54,7 +54,7 @@ pub static RATES: [Asked; 10] = [
 ];
 
 // The cap decision, Quote, Settle and Schedule at their edges. A remark that starts with a number names the refusal.
-pub static EDGES: [Asked; 114] = [
+pub static EDGES: [Asked; 146] = [
     CapDecision(0),
     CapDecision(1),
     CapDecision(25000),
@@ -117,15 +117,26 @@ pub static EDGES: [Asked; 114] = [
     Settle(On(50, 65, 0, 2, 1, 5, 1000), &[(1, 61)]), // 10
     Settle(On(50, 65, 0, 2, 1, 5, 1000), &[(3, 61)]), // 10, before any mark is looked at
     Settle(On(40, 65, 0, 2, 1, 20, 1000), &[(1, 241)]), // 10
-    Settle(On(40, 67, 0, 1, 1, 0, 2000), &[(1, 1)]), // 10: a lump sum takes no mark
+    Settle(On(40, 67, 0, 1, 1, 0, 2000), &[(1, 1)]), // a lump sum takes marks
+    Settle(On(40, 67, 0, 1, 1, 0, 2000), &[(1, 12)]), // the most of them
+    Settle(On(40, 67, 0, 1, 1, 0, 2000), &[(1, 13)]), // 10: lump sum
+    Settle(On(40, 67, 0, 1, 1, 0, 2000), &[(3, 13)]), // 10, before any mark is looked at
     Settle(On(50, 65, 0, 2, 1, 5, 1000), &[(3, 1)]), // 11
     Settle(On(50, 65, 0, 2, 1, 5, 1000), &[(1, 3), (3, 1)]), // 11
     Settle(On(50, 65, 0, 2, 1, 5, 1000), &[(1, 59), (255, 1)]), // 11
     Settle(On(50, 65, 0, 2, 1, 5, 1000), &[(1, 5), (2, 1), (3, 1)]), // 11 before 12 at one place
+    Settle(On(40, 67, 0, 1, 1, 0, 2000), &[(1, 2), (3, 1)]), // 11: lump sum
+    Settle(On(40, 67, 0, 1, 1, 0, 2000), &[(1, 11), (255, 1)]), // 11
+    Settle(On(40, 67, 0, 1, 1, 0, 2000), &[(2, 1), (3, 1)]), // 11 before 12 at one place
     Settle(On(50, 65, 0, 2, 1, 5, 1000), &[(0, 1), (3, 1)]), // 12: the leftmost decides
     Settle(On(50, 65, 0, 2, 1, 5, 1000), &[(1, 5), (2, 1), (1, 1)]), // 12: paid after the end
     Settle(On(50, 65, 0, 2, 1, 5, 1000), &[(1, 5), (2, 1), (0, 1)]), // 12: missed after the end
     Settle(On(50, 65, 0, 2, 1, 5, 1000), &[(1, 6), (0, 13), (1, 1)]), // 12: paid after too long a gap
+    Settle(On(40, 67, 0, 1, 1, 0, 2000), &[(0, 1)]), // 12: lump sum, which misses no month
+    Settle(On(40, 67, 0, 1, 1, 0, 2000), &[(1, 11), (0, 1)]), // 12: a 0 later
+    Settle(On(40, 67, 0, 1, 1, 0, 2000), &[(1, 4), (2, 1), (1, 1)]), // 12: back after the end
+    Settle(On(40, 67, 0, 1, 1, 0, 2000), &[(1, 4), (2, 1), (0, 1)]), // 12: missed after the end
+    Settle(On(40, 67, 0, 1, 1, 0, 2000), &[(1, 1), (0, 1), (3, 1)]), // 12: the leftmost decides
     Settle(On(50, 65, 0, 2, 1, 5, 1000), &[]), // status 0
     Settle(On(50, 65, 0, 2, 1, 5, 1000), &[(1, 1)]), // status 1
     Settle(On(50, 65, 0, 2, 1, 5, 1000), &[(1, 59)]),
@@ -156,8 +167,17 @@ pub static EDGES: [Asked; 114] = [
     Settle(On(50, 65, 0, 2, 1, 5, 1000), &[(2, 60)]),
     Settle(On(50, 65, 0, 2, 1, 1, 1000), &[(1, 1), (0, 11)]), // the term is over
     Settle(On(54, 66, 5, 2, 1, 10, 1750), &[(1, 11), (2, 1)]),
+    Settle(On(40, 67, 0, 1, 1, 0, 2000), &[(1, 11), (2, 1)]), // status 5: a lump sum goes back
+    Settle(On(40, 67, 0, 1, 1, 0, 2000), &[(2, 1)]), // in the first month
+    Settle(On(40, 67, 0, 1, 1, 0, 2000), &[(1, 3), (2, 5)]), // once, however many months are marked
+    Settle(On(40, 67, 0, 1, 1, 0, 2000), &[(2, 12)]),
+    Settle(On(40, 67, 0, 1, 2, 0, 2000), &[(1, 1), (2, 1)]), // an employer's
+    Settle(On(54, 66, 5, 2, 2, 0, 250), &[(1, 6), (2, 1)]), // with odd months
     Settle(On(40, 67, 0, 1, 1, 0, 2000), &[]), // status 6
-    Settle(On(54, 66, 5, 2, 2, 0, 250), &[]),
+    Settle(On(40, 67, 0, 1, 1, 0, 2000), &[(1, 11)]),
+    Settle(On(40, 67, 0, 1, 2, 0, 2000), &[(1, 12)]), // an employer's
+    Settle(On(54, 66, 5, 2, 2, 0, 250), &[]), // with odd months
+    Settle(On(54, 66, 5, 2, 2, 0, 250), &[(1, 12)]),
     Schedule(On(50, 65, 0, 2, 1, 2, 1000), &[(1, 11), (0, 2), (1, 3)], 18), // a gap over the end of a year
     Schedule(On(54, 66, 5, 2, 1, 10, 1750), &[(1, 2), (0, 1), (1, 2)], 7), // both tables
     Schedule(On(50, 65, 0, 2, 1, 5, 1000), &[(1, 3)], 3), // as many entries as marks
@@ -167,18 +187,30 @@ pub static EDGES: [Asked; 114] = [
     Schedule(On(50, 65, 0, 2, 1, 5, 1000), &[], 2), // no marks
     Schedule(On(50, 65, 0, 2, 1, 5, 1000), &[], 0),
     Schedule(On(40, 67, 0, 1, 1, 0, 2000), &[], 2), // lump sum
+    Schedule(On(40, 67, 0, 1, 1, 0, 2000), &[(1, 12)], 12), // as many entries as marks
+    Schedule(On(40, 67, 0, 1, 1, 0, 2000), &[(1, 3), (2, 2)], 7), // a lump sum that goes back
+    Schedule(On(40, 67, 0, 1, 1, 0, 2000), &[(2, 1)], 2), // in its first month
+    Schedule(On(54, 66, 5, 2, 2, 0, 250), &[(1, 2), (2, 1)], 3), // an employer's with odd months
     Schedule(On(50, 65, 0, 2, 1, 5, 1000), &[(1, 5)], 4), // 14
     Schedule(On(50, 65, 0, 2, 1, 5, 1000), &[(1, 1)], 0), // 14
+    Schedule(On(40, 67, 0, 1, 1, 0, 2000), &[(1, 5)], 4), // 14: lump sum
+    Schedule(On(40, 67, 0, 1, 1, 0, 2000), &[(1, 4), (2, 1)], 4), // 14
+    Schedule(On(40, 67, 0, 1, 1, 0, 2000), &[(2, 1)], 0), // 14
     Schedule(On(50, 65, 0, 2, 1, 5, 1000), &[(1, 2), (3, 1)], 2), // 11 before 14
     Schedule(On(50, 65, 0, 2, 1, 5, 1000), &[(1, 2), (3, 1)], 5), // 11
+    Schedule(On(40, 67, 0, 1, 1, 0, 2000), &[(1, 2), (3, 1)], 2), // 11 before 14: lump sum
+    Schedule(On(40, 67, 0, 1, 1, 0, 2000), &[(1, 2), (3, 1)], 5), // 11
     Schedule(On(50, 65, 0, 2, 1, 5, 1000), &[(0, 1)], 5), // 12
     Schedule(On(50, 65, 0, 2, 1, 5, 1000), &[(1, 2), (2, 1), (1, 1)], 5), // 12
+    Schedule(On(40, 67, 0, 1, 1, 0, 2000), &[(1, 2), (0, 1)], 5), // 12: lump sum
+    Schedule(On(40, 67, 0, 1, 1, 0, 2000), &[(1, 2), (2, 1), (1, 1)], 5), // 12
     Schedule(On(50, 65, 0, 2, 1, 5, 1000), &[(1, 61)], 5), // 10
+    Schedule(On(40, 67, 0, 1, 1, 0, 2000), &[(1, 13)], 13), // 10: lump sum
     Schedule(On(50, 65, 0, 3, 1, 5, 1000), &[(1, 1)], 5), // 1
 ];
 
 // Contracts paid off, P1 to P7. A remark that starts with a number names the refusal.
-pub static PAY_OFFS: [Asked; 34] = [
+pub static PAY_OFFS: [Asked; 41] = [
     PayOff(On(50, 65, 0, 2, 1, 5, 1000), &[(1, 18)], 51, 1011), // eighteen paid
     PayOff(
         On(50, 65, 0, 2, 1, 5, 1000),
@@ -207,6 +239,8 @@ pub static PAY_OFFS: [Asked; 34] = [
     PayOff(On(50, 65, 0, 2, 1, 5, 1000), &[(1, 11), (2, 1)], 51, 1011), // 16: refunded
     PayOff(On(50, 65, 0, 2, 1, 5, 1000), &[], 50, 1011), // 16: no marks
     PayOff(On(40, 67, 0, 1, 1, 0, 2000), &[], 40, 1011), // 16: lump sum
+    PayOff(On(40, 67, 0, 1, 1, 0, 2000), &[(1, 12)], 41, 1011), // 16: its first year over
+    PayOff(On(40, 67, 0, 1, 1, 0, 2000), &[(1, 11), (2, 1)], 40, 1011), // 16: gone back
     PayOff(On(50, 65, 0, 2, 1, 5, 1000), &[(1, 18)], 51, 999), // 17
     PayOff(On(50, 65, 0, 2, 1, 5, 1000), &[(1, 18)], 51, 10000), // 17
     PayOff(On(50, 65, 0, 2, 1, 5, 1000), &[(1, 18)], 51, 0), // 17
@@ -217,17 +251,22 @@ pub static PAY_OFFS: [Asked; 34] = [
     PayOff(On(50, 65, 0, 2, 1, 5, 1000), &[(1, 18)], 4294967295, 1011), // 5
     PayOff(On(50, 65, 0, 2, 1, 5, 1000), &[(1, 11), (2, 1)], 65, 999), // 16 before 17 and 5
     PayOff(On(40, 67, 0, 1, 1, 0, 2000), &[], 65, 999), // 16 before 17 and 5: lump sum
+    PayOff(On(40, 67, 0, 1, 1, 0, 2000), &[(1, 12)], 65, 999), // 16 before 17 and 5
+    PayOff(On(40, 67, 0, 1, 1, 0, 2000), &[(1, 11), (2, 1)], 65, 999), // 16 before 17 and 5: gone back
     PayOff(On(50, 65, 0, 2, 1, 5, 1000), &[(1, 60)], 65, 10000), // 17 before 5: complete
     PayOff(On(50, 65, 0, 2, 1, 5, 1100), &[(1, 18)], 65, 999), // 7, as Settle refuses
     PayOff(On(64, 65, 0, 2, 1, 1, 1000), &[(1, 1)], 64, 1011), // 5, as Settle refuses
     PayOff(On(50, 65, 0, 2, 1, 5, 1000), &[(1, 61)], 65, 999), // 10, as Settle refuses
+    PayOff(On(40, 67, 0, 1, 1, 0, 2000), &[(1, 13)], 65, 999), // 10: lump sum
     PayOff(On(50, 65, 0, 2, 1, 5, 1000), &[(1, 3), (3, 1)], 65, 999), // 11 at 3, as Settle refuses
+    PayOff(On(40, 67, 0, 1, 1, 0, 2000), &[(1, 2), (3, 1)], 65, 999), // 11 at 2: lump sum
     PayOff(
         On(50, 65, 0, 2, 1, 5, 1000),
         &[(1, 1), (0, 12), (1, 1)],
         65,
         999,
     ), // 12 at 13, as Settle refuses
+    PayOff(On(40, 67, 0, 1, 1, 0, 2000), &[(1, 5), (0, 1)], 65, 999), // 12 at 5: lump sum
 ];
 
 // Exact halves, and quotients beside them, H1 and H2: a half goes to the even number, but that of a pay-off goes up.

@@ -4,7 +4,7 @@
 mod cases;
 mod postings;
 
-use cases::{Forged, History};
+use cases::{Forged, ForgedLumpSum, History};
 use records::Contract;
 use refusals::Refused;
 use scheme::MOST_MARKS;
@@ -35,6 +35,17 @@ fn forged(terms: Terms, at: usize, mark: u8, count: usize) -> Contract {
         marks,
         count,
     }
+}
+
+// A lump sum's record with its count and its first marks set from outside, whatever they are.
+fn forged_lump_sum(case: ForgedLumpSum) -> Contract {
+    let ForgedLumpSum(set, mark, count) = case;
+    let mut held = records::fresh_record(terms_for(0, 250));
+    if let Some(first) = held.marks.get_mut(..set) {
+        first.fill(mark);
+    }
+    held.count = count;
+    held
 }
 
 // Paid months, then missed ones, then another mark a number of times, posted into a record. Gives the answer to the last posting.
@@ -85,26 +96,49 @@ fn from_the_start(rt: &impl Print, monthly: Contract, lump: Contract) -> io::Res
     write_histories(rt, lump, &cases::LUMP_SUM)
 }
 
-fn after_the_end(rt: &impl Print, monthly: Contract) -> io::Result<()> {
+fn after_the_end(rt: &impl Print, monthly: Contract, lump: Contract) -> io::Result<()> {
     let mut ended = monthly;
     let _ = post_history(&mut ended, History(12, 0, 2, 1));
     println!(rt; "posted after 12 paid and the end")?;
-    write_histories(rt, ended, &cases::AFTER_THE_END)
+    write_histories(rt, ended, &cases::AFTER_THE_END)?;
+    let mut gone_back = lump;
+    let _ = post_history(&mut gone_back, History(3, 0, 2, 1));
+    println!(rt; "posted after 3 paid and the end of a lump sum")?;
+    write_histories(rt, gone_back, &cases::AFTER_THE_END)
 }
 
-// A record with one mark and its count set from outside, into which a paid month is then posted.
+// A paid month is posted into a record that was set from outside.
+fn write_posting_into(rt: &impl Print, outside: Contract) -> io::Result<()> {
+    let mut held = outside;
+    let posted = postings::post_times(&mut held, Ok(()), 1, 1);
+    write_outcome(rt, posted, &held)
+}
+
 fn write_forged(rt: &impl Print, case: Forged) -> io::Result<()> {
     let Forged(amount, at, mark, count) = case;
     print!(rt; "{at:6}{mark:6}{count:7}      ")?;
-    let mut held = forged(terms_for(5, amount), at, mark, count);
-    let posted = postings::post_times(&mut held, Ok(()), 1, 1);
-    write_outcome(rt, posted, &held)
+    write_posting_into(rt, forged(terms_for(5, amount), at, mark, count))
+}
+
+fn write_forged_lump_sum(rt: &impl Print, case: ForgedLumpSum) -> io::Result<()> {
+    let ForgedLumpSum(set, mark, count) = case;
+    print!(rt; "{set:6}{mark:6}{count:7}      ")?;
+    write_posting_into(rt, forged_lump_sum(case))
 }
 
 fn write_forged_records(rt: &impl Print) -> io::Result<()> {
     println!(rt; "    at  mark  count         refusal place count bad  credit")?;
     for case in &cases::FORGED {
         write_forged(rt, *case)?;
+    }
+    Ok(())
+}
+
+fn write_forged_lump_sums(rt: &impl Print) -> io::Result<()> {
+    println!(rt; "lump sum")?;
+    println!(rt; "   set  mark  count         refusal place count bad  credit")?;
+    for case in &cases::FORGED_LUMP_SUMS {
+        write_forged_lump_sum(rt, *case)?;
     }
     Ok(())
 }
@@ -138,13 +172,26 @@ fn write_totals(rt: &impl Print, lump: Contract, paid: Contract, bad: Contract) 
     write_total_of_each(rt, &list, &[64, 0])
 }
 
+// Lump sums of a whole first year; then one that went back among them; then a bad one at 3.
+fn write_totals_of_lump_sums(rt: &impl Print) -> io::Result<()> {
+    let mut list = [forged_lump_sum(ForgedLumpSum(12, 1, 12)); 65];
+    println!(rt; "lump sums with marks")?;
+    write_total_of_each(rt, &list, &[1, 64])?;
+    list[1] = forged_lump_sum(ForgedLumpSum(12, 2, 12));
+    write_total_of_each(rt, &list, &[2, 64])?;
+    list[3] = forged_lump_sum(ForgedLumpSum(13, 1, 13));
+    write_total_of_each(rt, &list, &[3, 4, 64])
+}
+
 fn main(rt: HostRuntime) -> io::Result<()> {
     let monthly = records::fresh_record(terms_for(5, 1000));
     let lump = records::fresh_record(terms_for(0, 250));
     from_the_start(&rt, monthly, lump)?;
-    after_the_end(&rt, monthly)?;
+    after_the_end(&rt, monthly, lump)?;
     write_forged_records(&rt)?;
+    write_forged_lump_sums(&rt)?;
     let mut paid = monthly;
     let _ = post_history(&mut paid, History(18, 0, 1, 0));
-    write_totals(&rt, lump, paid, forged(terms_for(5, 1000), 1, 1, 0))
+    write_totals(&rt, lump, paid, forged(terms_for(5, 1000), 1, 1, 0))?;
+    write_totals_of_lump_sums(&rt)
 }

@@ -65,6 +65,20 @@ fn outside_line(amount: u32, at: usize, mark: u8, count: u32) -> String {
     format!("{at:>6}{mark:>6}{count:>7}      {}", left(outcome, &record))
 }
 
+/// A lump sum of which the count and the first marks were set from outside, all alike.
+fn lump_sum_of(first: usize, mark: u8, count: u32) -> Record {
+    let mut record = Record { count, ..Record::new(from_age_50(0, 250)) };
+    record.marks[..first].fill(mark);
+    record
+}
+
+/// A paid month posted into such a lump sum.
+fn outside_lump_sum_line(first: usize, mark: u8, count: u32) -> String {
+    let mut record = lump_sum_of(first, mark, count);
+    let outcome = post(&mut record, PAID);
+    format!("{first:>6}{mark:>6}{count:>7}      {}", left(outcome, &record))
+}
+
 fn total_line(records: &[Record]) -> String {
     let MemberTotal { refusal, index, total } = member_total(records);
     format!("{:>7}{refusal:>28}{index:>6}{total:>18}\n", records.len())
@@ -98,7 +112,26 @@ const HISTORIES: [History; 20] = [
     (60, 0, 3, 1),
 ];
 
-const LUMP_SUM: [History; 2] = [(0, 0, PAID, 0), (1, 0, PAID, 0)];
+const LUMP_SUM: [History; 14] = [
+    (0, 0, PAID, 0),
+    (1, 0, PAID, 0),
+    // The whole first year, and a month more.
+    (12, 0, PAID, 0),
+    (12, 0, PAID, 1),
+    (12, 0, 3, 1),
+    // The member leaves.
+    (11, 0, ENDED, 1),
+    (0, 0, ENDED, 1),
+    (0, 0, ENDED, 12),
+    (0, 0, ENDED, 13),
+    // No month is missed.
+    (0, 1, PAID, 0),
+    (1, 1, PAID, 0),
+    (1, 1, PAID, 1),
+    // No mark.
+    (0, 0, 3, 1),
+    (1, 0, 3, 1),
+];
 
 const AFTER_THE_END: [History; 4] = [(1, 0, PAID, 0), (0, 1, PAID, 0), (0, 0, ENDED, 1), (0, 0, 3, 1)];
 
@@ -116,6 +149,25 @@ const OUTSIDE: [(u32, usize, u8, u32); 10] = [
     (1_100, 0, MISSED, 0),
 ];
 
+/// Of a lump sum: how many first marks, their value, the count.
+const OUTSIDE_LUMP_SUMS: [(usize, u8, u32); 12] = [
+    (1, PAID, 1),
+    (1, ENDED, 1),
+    (12, PAID, 12),
+    (12, ENDED, 12),
+    // Past the first year.
+    (13, PAID, 13),
+    (13, ENDED, 13),
+    (240, PAID, 240),
+    // Unlawful, or no mark.
+    (1, MISSED, 1),
+    (1, PAID, 2),
+    (1, 9, 1),
+    // Past the count.
+    (1, PAID, 0),
+    (2, PAID, 1),
+];
+
 #[test]
 fn stored_postings_and_totals() {
     let monthly = Record::new(from_age_50(5, 1_000));
@@ -129,8 +181,15 @@ fn stored_postings_and_totals() {
     rendered += "posted after 12 paid and the end\n";
     rendered.extend(AFTER_THE_END.map(|history| history_line(ended, history)));
 
+    let mut gone_back = lump_sum;
+    post_all(&mut gone_back, (3, 0, ENDED, 1));
+    rendered += "posted after 3 paid and the end of a lump sum\n";
+    rendered.extend(AFTER_THE_END.map(|history| history_line(gone_back, history)));
+
     rendered += "    at  mark  count         refusal place count bad  credit\n";
     rendered.extend(OUTSIDE.map(|(amount, at, mark, count)| outside_line(amount, at, mark, count)));
+    rendered += "lump sum\n   set  mark  count         refusal place count bad  credit\n";
+    rendered.extend(OUTSIDE_LUMP_SUMS.map(|(first, mark, count)| outside_lump_sum_line(first, mark, count)));
 
     rendered += "records                     refusal index             total\n";
     let mut list = [lump_sum; 65];
@@ -143,6 +202,20 @@ fn stored_postings_and_totals() {
     rendered.extend([2, 3, 4, 64, 65].map(|records| total_line(&list[..records])));
     list[0] = list[3];
     rendered.extend([64, 0].map(|records| total_line(&list[..records])));
+
+    rendered += "lump sums with marks\n";
+    let mut list = [lump_sum; 64];
+    for record in &mut list {
+        post_all(record, (12, 0, PAID, 0));
+    }
+    rendered.extend([1, 64].map(|records| total_line(&list[..records])));
+    // One went back.
+    list[1] = lump_sum;
+    post_all(&mut list[1], (0, 0, ENDED, 12));
+    rendered.extend([2, 64].map(|records| total_line(&list[..records])));
+    // A bad one: it has a mark too many.
+    list[3] = lump_sum_of(13, PAID, 13);
+    rendered.extend([3, 4, 64].map(|records| total_line(&list[..records])));
 
     assert_eq!(difference(&stored("posting"), &rendered), None);
 }
@@ -206,7 +279,7 @@ fn marks(asked: &[u64]) -> Vec<u8> {
 
 #[test]
 fn stored_schedules() {
-    compare("schedule", 17, |asked: [u64; 16]| {
+    compare("schedule", 29, |asked: [u64; 16]| {
         let mut list = vec![7; narrow(asked[15]) as usize];
         let outcome = schedule(&terms(&asked), &marks(&asked), &mut list);
         format!("refusal {} place {} entries{}", outcome.refusal, outcome.place, spaced(list))
@@ -220,7 +293,7 @@ fn stored_cap_decisions() {
 
 #[test]
 fn stored_settlements() {
-    compare("settle", 63, |asked: [u64; 15]| {
+    compare("settle", 92, |asked: [u64; 15]| {
         let Settlement { refusal, place, contribution, status, credit, refund } = settle(&terms(&asked), &marks(&asked));
         format!("refusal {refusal} place {place} contribution {contribution} status {status} credit {credit} refund {refund}")
     });
@@ -228,7 +301,7 @@ fn stored_settlements() {
 
 #[test]
 fn stored_pay_offs() {
-    compare("pay-off", 34, |asked: [u64; 17]| {
+    compare("pay-off", 42, |asked: [u64; 17]| {
         let [age_now, increase] = [asked[15], asked[16]].map(narrow);
         let PayOff { refusal, place, remaining, increased, cost } = pay_off(&terms(&asked), &marks(&asked), age_now, increase);
         format!("refusal {refusal} place {place} remaining {remaining} increased {increased} cost {cost}")
