@@ -57,4 +57,4 @@ module _ (open_months : ℕ) where
       }))
 
   pub shape_lawful : (ms : List ℕ) → StayedThenLeft ms → Lawful AtOnce open_months ms
-  shape_lawful ms (a , (b , is)) = rw is (left_lawful a b)
+  shape_lawful ms (a, (b, is)) = rw is (left_lawful a b)
