@@ -27,13 +27,13 @@ at_once_told e m = subst T (sym (ap is_monthly m) ∙ e) tt
 
 -- a term's kind, and its most marks
 
-pub at_once : (term : ℕ) → term ≡ 0 → kind_of term ≡ AtOnce
+pub kind_at_once : (term : ℕ) → term ≡ 0 → kind_of term ≡ AtOnce
 unfolding kind_of
-at_once term z = rw (eq-eqb term 0 z)
+kind_at_once term z = rw (eq-eqb term 0 z)
 
-pub by_the_month : (term : ℕ) → 0 < term → kind_of term ≡ Monthly
+pub kind_monthly : (term : ℕ) → 0 < term → kind_of term ≡ Monthly
 unfolding kind_of
-by_the_month term some = rw (ne_eqb term 0 (λ z. omega arith))
+kind_monthly term some = rw (ne_eqb term 0 (λ z. omega arith))
 
 pub lump_sum_limit : (term : ℕ) → term ≡ 0 → mark_limit term ≡ lump_sum_marks
 unfolding mark_limit

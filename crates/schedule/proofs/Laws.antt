@@ -22,7 +22,7 @@ use Rattle.terms.specs.declared.Terms.{Terms}
 use Rattle.election.specs.TermsAccepted.{TermsAccepted}
 use Rattle.election.proofs.Laws.{upper_rate_is}
 use Rattle.marks.specs.declared.kinds.Kind.{Kind}
-use Rattle.marks.proofs.KindOf.{at_once, by_the_month}
+use Rattle.marks.proofs.KindOf.{kind_at_once, kind_monthly}
 use Rattle.marks.specs.Reading.{ReadSoFar, start_of, next_refusal_of, count_mark, count_up, step_by, read_on, marks_reading}
 use Rattle.marks.specs.Status.{status_of}
 use Rattle.marks.proofs.Term.{few_read, marks_take, marks_counts}
@@ -161,7 +161,7 @@ module _ (s : YearRows) (marks : List ℕ) (none : (settle_refusal s.election.te
   unfolding read_on after_marks
   walk_starts =
       same_walk
-      (ap (λ (k : Kind). start_of k open_months) (sym (by_the_month t.term s.monthly))
+      (ap (λ (k : Kind). start_of k open_months) (sym (kind_monthly t.term s.monthly))
       ∙ sym (few_read open_months t.term (take 0 marks) (omega arith)))
       refl
       (upper_begun s.upper)
@@ -232,7 +232,7 @@ unfolding entry_of
 lump_sum_entry t marks i z none inside =
     let first = take (suc i) marks in
     let unrefused = refusal_take t marks none (suc i) in
-    let law : Lawful AtOnce open_months first = rw (at_once t.term z) at (settled_marks t first unrefused).lawful in
+    let law : Lawful AtOnce open_months first = rw (kind_at_once t.term z) at (settled_marks t first unrefused).lawful in
     let last = last_ended marks i inside law in
     ap (λ (n : SettleNumbers). n.credit) (settle_settled t first unrefused)
     ∙ by_test (has_ended first)

@@ -21,12 +21,12 @@ use Rattle.settlement.specs.LumpSum.{LumpSumSettled, LumpSumAnswered}
 use Rattle.settlement.proofs.Laws.{settle_settled, settle_refusal_lem}
 
 -- the numbers of a lump sum for which nothing came back, and of one that went back
-abbrev in_full : Terms → SettleNumbers
-in_full t =
+abbrev numbers_in_full : Terms → SettleNumbers
+numbers_in_full t =
     record { refusal = 0; place = 0; contribution = contribution_of t; status = 6; credit = pounds_in_pence t.amount; refund = 0 }
 
-abbrev given_back : Terms → SettleNumbers
-given_back t =
+abbrev numbers_given_back : Terms → SettleNumbers
+numbers_given_back t =
     record { refusal = 0; place = 0; contribution = contribution_of t; status = 5; credit = 0; refund = contribution_of t }
 
 module _ (t : Terms) (ms : List ℕ) (z : t.term ≡ 0) where
@@ -34,16 +34,16 @@ module _ (t : Terms) (ms : List ℕ) (z : t.term ≡ 0) where
   unfolding payments_of
   one_payment = rw (eq-eqb t.term 0 z) (omega arith)
 
-  pub ended_numbers : has_ended ms ≡ true → settled_numbers t ms ≡ given_back t
+  pub ended_numbers : has_ended ms ≡ true → settled_numbers t ms ≡ numbers_given_back t
   unfolding credit_at_status refund_at_status
   ended_numbers e = rw (ended_status open_months t.term ms z e, one_payment)
 
-  pub running_numbers : has_ended ms ≡ false → settled_numbers t ms ≡ in_full t
+  pub running_numbers : has_ended ms ≡ false → settled_numbers t ms ≡ numbers_in_full t
   unfolding credit_at_status refund_at_status
   running_numbers e = rw (running_status open_months t.term ms z e)
 
 module _ (t : Terms) (ms : List ℕ) where
-  went_back : has_ended ms ≡ true → LumpSumSettled t ms (given_back t)
+  went_back : has_ended ms ≡ true → LumpSumSettled t ms (numbers_given_back t)
   went_back e =
       record {
         stays = λ nowhere. let g = ended_stands ms e in absurd (nowhere g.0 g.1.0 g.1.1);
@@ -53,7 +53,7 @@ module _ (t : Terms) (ms : List ℕ) where
         credited = λ q. refl;
       }
 
-  stayed : has_ended ms ≡ false → 0 < t.amount → 1 ≤ contribution_of t → LumpSumSettled t ms (in_full t)
+  stayed : has_ended ms ≡ false → 0 < t.amount → 1 ≤ contribution_of t → LumpSumSettled t ms (numbers_in_full t)
   stayed e some paid =
       record {
         stays = λ nowhere. (refl, (refl, refl));
