@@ -1,4 +1,4 @@
-// The two kinds of contract, by how they are paid for, and what each takes of marks.
+// The two kinds of contract, by how they are paid for.
 
 ghost use Rattle.std.specs.Prelude.{◌≡◌};
 ghost use Rattle.marks.specs.Kind.{kind_of, is_monthly};

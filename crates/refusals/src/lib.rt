@@ -58,7 +58,7 @@ impl fmt::Display for Refusal {
             Refusal::WrongAmount => "an amount that is no step",
             Refusal::AboveCap => "more pension than the cap",
             Refusal::NoNumberLeft => "no quote number left",
-            Refusal::TooManyMarks => "more marks than months",
+            Refusal::TooManyMarks => "more marks than the contract takes",
             Refusal::UnknownMark => "a mark above 2",
             Refusal::UnlawfulMark => "a mark that is unlawful where it stands",
             Refusal::BadRecord => "a bad record",

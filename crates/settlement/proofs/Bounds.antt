@@ -24,7 +24,9 @@ use Rattle.marks.specs.Counts.{paid_months, payments_of}
 use Rattle.refusals.specs.Places.{RefusedAt}
 use Rattle.marks.specs.Refusal.{marks_refusal}
 use Rattle.marks.specs.Status.{status_of}
+use Rattle.common.proofs.Tests.{by_test}
 use Rattle.marks.proofs.KindOf.{limit_most}
+use Rattle.marks.proofs.Counts.{lump_sum_payments, monthly_payments}
 use Rattle.marks.proofs.StatusOf.{not_lump, status_most, refunded_early}
 use Rattle.marks.proofs.Term.{too_many_marks, few_refused, marks_unrefused, marks_lawful, marks_counts, marks_within}
 use Rattle.examination.specs.Refusal.{settle_refusal}
@@ -89,8 +91,8 @@ module _ (t : Terms) (ms : List ℕ) where
 
   -- eleven monthly contributions at most, or a lump sum
   refund_bound : (settle_refusal t ms).refusal ≡ 0 → refund_at_status t ms (status_of open_months t.term ms) ≤ most_refund
-  unfolding refund_at_status payments_of
-  refund_bound none = go (eqb (status_of open_months t.term ms) 5) refl (eqb t.term 0) refl
+  unfolding refund_at_status
+  refund_bound none = go (eqb (status_of open_months t.term ms) 5) refl
     where
       few_paid : 0 < t.term → status_of open_months t.term ms ≡ 5 → paid_months ms ≤ ceased_from - 1
       few_paid monthly s =
@@ -100,18 +102,23 @@ module _ (t : Terms) (ms : List ℕ) where
             (rw (marks_counts open_months t.term ms (settled_marks t ms none)) at (marks_within open_months t.term ms)).paid_most,
           )
 
-      go : (b : Bool) → eqb (status_of open_months t.term ms) 5 ≡ b → (l : Bool) → eqb t.term 0 ≡ l
-          → pick b (contribution_of t * pick l 1 (paid_months ms)) 0 ≤ most_refund
-      go false e l d = omega arith
-      go true e true d = omega (arith, contribution_most t 0 (settled_terms t ms none))
-      go true e false d =
+      paid_back : status_of open_months t.term ms ≡ 5 → contribution_of t * payments_of t.term ms ≤ most_refund
+      paid_back s =
+          by_test (eqb t.term 0)
+          (λ d. rw (lump_sum_payments t.term ms (eqb-true _ _ d)) (omega (arith, contribution_most t 0 (settled_terms t ms none))))
+          (λ d.
           let monthly : 0 < t.term = omega (arith, eqb-false _ _ d) in
-          omega (
+          rw (monthly_payments t.term ms monthly)
+          (omega (
             arith,
             mul-le-mul {n₁ = contribution_of t} {m₁ = paid_months ms} {n₂ = most_monthly_contribution} {m₂ = ceased_from - 1}
                 (monthly_most t 0 (settled_terms t ms none) monthly)
-                (few_paid monthly (eqb-true _ _ e)),
-          )
+                (few_paid monthly s),
+          )))
+
+      go : (b : Bool) → eqb (status_of open_months t.term ms) 5 ≡ b → pick b (contribution_of t * payments_of t.term ms) 0 ≤ most_refund
+      go false e = omega arith
+      go true e = paid_back (eqb-true _ _ e)
 
   pub settle_bounds : SettleBounds (settle_of t ms)
   settle_bounds = go (ℕ_discrete (settle_refusal t ms).refusal 0)

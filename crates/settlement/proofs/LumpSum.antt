@@ -6,14 +6,13 @@ use mathlib.Core.Logic.{inl, inr}
 use mathlib.Core.Path.{◌≡◌, refl, sym, subst, ◌∙◌}
 use Prim.Native.Nat.{ℕ, ◌*◌, ◌≤◌, ◌<◌}
 use native.Mathlib.Omega.{arith}
-use borrow.Author.Tests.{eq-eqb}
 use Rattle.common.proofs.Tests.{by_test, never}
 use Rattle.scheme.specs.Scheme.{pounds_in_pence, open_months}
 use Rattle.terms.specs.declared.Terms.{Terms}
 use Rattle.election.specs.ContributionOf.{contribution_of}
 use Rattle.election.proofs.Laws.{contribution_least}
 use Rattle.marks.specs.Counts.{has_ended, payments_of}
-use Rattle.marks.proofs.Counts.{ended_stands, stands_ended}
+use Rattle.marks.proofs.Counts.{ended_stands, stands_ended, lump_sum_payments}
 use Rattle.marks.proofs.StatusOf.{ended_status, running_status}
 use Rattle.examination.proofs.Laws.{settled_terms}
 use Rattle.settlement.specs.Settle.{SettleNumbers, credit_at_status, refund_at_status, settled_numbers, settle_of}
@@ -31,8 +30,7 @@ numbers_given_back t =
 
 module _ (t : Terms) (ms : List ℕ) (z : t.term ≡ 0) where
   one_payment : contribution_of t * payments_of t.term ms ≡ contribution_of t
-  unfolding payments_of
-  one_payment = rw (eq-eqb t.term 0 z) (omega arith)
+  one_payment = rw (lump_sum_payments t.term ms z) (omega arith)
 
   pub ended_numbers : has_ended ms ≡ true → settled_numbers t ms ≡ numbers_given_back t
   unfolding credit_at_status refund_at_status

@@ -104,7 +104,7 @@ impl fmt::Display for Refusal {
             Refusal::Amount => write!(formatter, "the amount is 0 or not a multiple of £250"),
             Refusal::AboveCap => write!(formatter, "the pension would be above the cap"),
             Refusal::NumbersUsedUp => write!(formatter, "the quote numbers are used up"),
-            Refusal::TooManyMarks => write!(formatter, "there are more marks than months"),
+            Refusal::TooManyMarks => write!(formatter, "there are more marks than the contract takes"),
             Refusal::UnknownMark { place } => write!(formatter, "the mark at {place} is unknown"),
             Refusal::UnlawfulMark { place } => write!(formatter, "the mark at {place} is not lawful there"),
             Refusal::ShortBuffer => write!(formatter, "the buffer is too short"),
