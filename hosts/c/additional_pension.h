@@ -48,17 +48,19 @@ extern "C" {
 #define AP_TERM_LUMP_SUM 0u
 
 /*
- * Marks: one for each elapsed month of a contract. After a 2 stand only 2s.
+ * Marks stand in the order of the months. After a 2 stand only 2s.
  *
- * A monthly contract has up to 12 for each year of its term. The first is not 0; directly before a 1 stand at most eleven 0s.
+ * A monthly contract has one for each elapsed month, so up to 12 for each year of its term. The first is not 0; directly before a 1
+ * stand at most eleven 0s.
  *
- * A lump sum has up to 12, those of its first year: a 1 for each month that has elapsed, then 2s from the month in which the member
- * died, became entitled to an ill-health pension or left without a pension. A first mark 2 is lawful, a 0 nowhere. Where nobody has
- * left, no marks say the same as up to twelve 1s.
+ * A lump sum has up to 12, those of its first year, and may have none: a 1 for each elapsed month, then 2s from the month in which the
+ * member died, became entitled to an ill-health pension or left with no pension, neither at once nor deferred. A first mark 2 is
+ * lawful, a 0 nowhere. A member who left with a pension is not marked 2. No marks say the same as up to twelve 1s, and after twelve
+ * marks a host adds no more: a later leaving gives nothing back.
  */
 #define AP_MARK_MISSED 0u
 #define AP_MARK_PAID 1u   /* of a lump sum: a month that has elapsed */
-#define AP_MARK_ENDED 2u  /* ended by notice; of a lump sum: the member has left */
+#define AP_MARK_ENDED 2u  /* ended by notice; of a lump sum: it goes back, as above */
 
 /* Refusals. A call gives the first that applies, in the order that stands with its function; not all go by the numbers. */
 #define AP_REFUSED_NOTHING 0u
@@ -72,7 +74,7 @@ extern "C" {
 #define AP_REFUSED_AMOUNT 7u         /* the amount is 0 or not a multiple of 250 pounds */
 #define AP_REFUSED_CAP 8u            /* existing pension and the new amount exceed 6,500 pounds a year */
 #define AP_REFUSED_LAST_NUMBER 9u    /* ap_quote: the last number is 999,999 or more */
-#define AP_REFUSED_MARK_COUNT 10u    /* more marks than 12 for each year of the term, or than 12 for a lump sum */
+#define AP_REFUSED_MARK_COUNT 10u    /* more than 12 marks for each year of the term, or more than 12 for a lump sum */
 #define AP_REFUSED_MARK_VALUE 11u    /* the mark at the place is above 2 */
 #define AP_REFUSED_MARK_ORDER 12u    /* the mark at the place is not lawful after those before it; for a lump sum any 0, and a 1
                                       * after a 2 */
@@ -157,11 +159,12 @@ uint32_t ap_quote(uint32_t age, uint32_t pnpa_years, uint32_t pnpa_months, uint3
  * Settles a contract as its marks stand.
  *
  *   age to amount     as for ap_quote
- *   marks, marks_len  one byte for each elapsed month, the first month first, at most 12 for each year of the term, or 12 for a
- *                     lump sum; they are read only
+ *   marks, marks_len  one byte for each elapsed month, the first month first, at most 12 for each year of the term; for a lump sum
+ *                     those of its first year, 0 to 12 bytes. They are read only
  *   out, out_len      where the result goes
  *
- * A lump sum is refunded to whoever paid it, member or employer, and once, however many months are marked.
+ * A lump sum with a mark 2 is refunded once, whoever paid it and however many months are marked. To whom it is paid is for the host
+ * to say, and whether the leaving was within the year. A monthly contract that lost its term is a lump sum to this call.
  *
  * If out_len is below 48, the value is 14 and nothing is written. Otherwise the value is the refusal (0 to 8, 10 to 12), and
  * exactly the first 48 bytes of out are written: the refusal, its place, the contribution, the status, the credit and the

@@ -320,7 +320,7 @@ int main(void)
                                      AP_PAYER_MEMBER, 5, 1000};
     const struct terms odd_months = {"ten years, pension age with odd months", 54, 66, 5, AP_OPTION_WITH_DEPENDANT,
                                      AP_PAYER_MEMBER, 10, 1750};
-    const struct terms lump_sum = {"lump sum, personal", 40, 68, 0, AP_OPTION_PERSONAL, AP_PAYER_EMPLOYER,
+    const struct terms lump_sum = {"lump sum of the employer, personal", 40, 68, 0, AP_OPTION_PERSONAL, AP_PAYER_EMPLOYER,
                                    AP_TERM_LUMP_SUM, 2000};
     const struct terms own_lump_sum = {"lump sum of the member, pension age with odd months", 50, 66, 5, AP_OPTION_WITH_DEPENDANT,
                                        AP_PAYER_MEMBER, AP_TERM_LUMP_SUM, 1000};

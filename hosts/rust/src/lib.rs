@@ -106,9 +106,9 @@ pub struct Settlement {
     /// The lump sum, or what is paid each month.
     pub contribution: Contribution,
     pub status: Status,
-    /// The pension that has been earned.
+    /// The pension that has been earned, or that a lump sum bought.
     pub credit: Pension,
-    /// What goes back to the payer, member or employer: the contribution for each paid month, or a lump sum once.
+    /// What goes back: at status 5 the contribution for each paid month, or a lump sum once, whoever paid it; otherwise nothing.
     pub refund: Contribution,
 }
 
@@ -148,12 +148,17 @@ pub fn quote(terms: &Terms, existing: Pension, last_number: u32) -> Result<Quote
     })
 }
 
-/// Settles a contract. There is a mark for each elapsed month, [`MISSED`], [`PAID`] or [`ENDED`], at most 12 for each year of the
-/// term.
+/// Settles a contract as its marks stand, in the order of the months. Too many are refused before any is looked at; then the first
+/// bad one is.
 ///
-/// A lump sum has marks for its first year, 12 at most: [`PAID`] for each month that has elapsed, then [`ENDED`] from the month in
-/// which the member died, became entitled to an ill-health pension or left without a pension. The lump sum then goes back. Where
-/// nobody has left, no marks say the same as up to twelve of [`PAID`].
+/// A monthly contract has a mark for each elapsed month, [`MISSED`], [`PAID`] or [`ENDED`], at most 12 for each year of the term. The
+/// first is not [`MISSED`], at most eleven [`MISSED`] stand directly before a [`PAID`], and after an [`ENDED`] stand no others.
+///
+/// A lump sum has marks for its first year, 12 at most: [`PAID`] for each elapsed month, then [`ENDED`] from the month in which the
+/// member died, became entitled to an ill-health pension or left with no pension, neither at once nor deferred. The first may be
+/// [`ENDED`]. The lump sum then goes back; to whom it is paid is for the host to say, and whether the leaving was within the year.
+/// A member who left with a pension is not marked [`ENDED`]. No marks say the same as up to twelve of [`PAID`], and after twelve a
+/// host adds no more.
 pub fn settle(terms: &Terms, marks: &[u8]) -> Result<Settlement, Refusal> {
     let mut result = [0; raw::SETTLE_BYTES];
     let refusal = raw::settle(&terms.numbers(), marks, &mut result);

@@ -25,7 +25,7 @@ pub enum Refusal {
     AboveCap,
     /// 9: the register has no further number.
     NumbersUsedUp,
-    /// 10: there are more marks than 12 for each year of the term, or than 12 for a lump sum.
+    /// 10: there are more than 12 marks for each year of the term, or more than 12 for a lump sum.
     TooManyMarks,
     /// 11: a mark is above 2.
     UnknownMark { place: u64 },

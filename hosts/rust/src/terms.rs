@@ -5,9 +5,9 @@ use std::fmt;
 
 /// A month that was not paid. A lump sum has none.
 pub const MISSED: u8 = 0;
-/// A paid month; of a lump sum, a month that has elapsed.
+/// A paid month; of a lump sum, an elapsed month.
 pub const PAID: u8 = 1;
-/// A month after the payer gave notice; of a lump sum, the month in which the member left, or one after it.
+/// A month after the payer gave notice; of a lump sum, the month of a leaving that gives it back, or one after it ([`settle`](crate::settle)).
 pub const ENDED: u8 = 2;
 
 /// The pension age that the election is priced for.
@@ -79,10 +79,10 @@ pub enum Status {
     Complete,
     /// 4: stopped, the last paid month being the twelfth or later; the credit stays.
     Ceased,
-    /// 5: stopped, with the last paid month before the twelfth or none, or a lump sum whose member left in the first year; what was
-    /// paid goes back and the credit is 0.
+    /// 5: stopped, with the last paid month before the twelfth or none, or a lump sum with an [`ENDED`] mark; what was paid goes back
+    /// and the credit is 0.
     Refunded,
-    /// 6: a lump sum whose member has not been marked as left, credited in full.
+    /// 6: a lump sum without an [`ENDED`] mark, credited in full.
     LumpSum,
 }
 

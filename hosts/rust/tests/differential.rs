@@ -65,7 +65,8 @@ impl LumpSums {
                 self.refunded[marks.len()] += 1;
                 self.to_employer += u64::from(terms.payer == 2);
             }
-            (0, _) => self.credited[marks.len()] += 1,
+            (0, 6) => self.credited[marks.len()] += 1,
+            (0, status) => panic!("status {status} of a lump sum"),
             (refusal @ 10..=12, _) => self.refused[refusal as usize - 10] += 1,
             _ => (),
         }

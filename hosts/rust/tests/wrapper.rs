@@ -139,6 +139,7 @@ fn refused_pay_offs() {
     ];
     assert_eq!(refused.map(|refusal| refusal.number()), [5, 11, 16, 16, 16, 16, 12, 17, 17, 5, 5]);
     assert_eq!(refused[1], Refusal::UnknownMark { place: 1 });
+    assert_eq!(refused[6], Refusal::UnlawfulMark { place: 1 });
     assert_eq!(refused[2].to_string(), "the contract has nothing to pay off");
     assert_eq!(refused[7].to_string(), "the increase is outside its range");
 }
@@ -178,5 +179,6 @@ fn money_in_words() {
 #[test]
 fn the_archive() {
     assert_eq!((raw::interface(), raw::rules()), (raw::INTERFACE, raw::RULES));
+    assert_eq!((raw::INTERFACE, raw::RULES), (1, 5));
     assert!(archive_fits());
 }
