@@ -33,8 +33,11 @@ module _ (n : ℕ) where
       go false some e = absurd (none-some n (sym e))
 
 -- no rate is printed for a pension age that 32 bits do not hold
+pub past_is_zero : (t : Terms) (p : ℕ) → 2 ^ 32 ≤ p → table_rate t p ≡ 0
+past_is_zero t p past = rate_past t p (omega (arith, past))
+
 pub past_is_none : (t : Terms) (p : ℕ) → 2 ^ 32 ≤ p → None ≡ if_printed (table_rate t p)
-past_is_none t p past = rw (rate_past t p (omega (arith, past)))
+past_is_none t p past = rw (past_is_zero t p past)
 
 -- where no rate is found: 5 for the lower one and for a lump sum, 6 for the upper one of a monthly contract
 no_rates : (lump lower upper : Bool)

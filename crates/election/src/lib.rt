@@ -5,11 +5,11 @@ ghost use Rattle.std.specs.Prelude.{◌≡◌, ◌+◌, ◌≤◌, IfOk};
 ghost use Rattle.scheme.specs.Scheme.{cap_pounds};
 ghost use Rattle.refusals.specs.Parts.{refusal_in};
 ghost use Rattle.money.specs.Contribution.{contribution};
-ghost use Rattle.terms.specs.Rate.{table_rate};
-ghost use Rattle.terms.specs.Rules.{wrong_amount, above_cap, refusal_of};
+ghost use Rattle.terms.specs.Rate.{rate_for, table_rate};
+ghost use Rattle.terms.specs.Rules.{missing_upper, wrong_amount, above_cap, refusal_of};
 ghost use Rattle.terms.specs.RefusalParts.{rate_refusal, amount_refusal};
 ghost use Rattle.election.specs.ContributionOf.{contribution_of};
-ghost use Rattle.election.specs.LookedUp.{if_printed, rates_of};
+ghost use Rattle.election.specs.LookedUp.{if_printed, upper_rate, rates_of};
 ghost use Rattle.election.specs.TermsAccepted.{TermsAccepted};
 
 use money::{ContributionPence, Pence, PensionPence};
@@ -23,16 +23,26 @@ pub struct TableRates {
     pub upper: Option<u32>,
 }
 
-// The rate of terms at a whole pension age, 0 where none is printed, as both lookups give it: of Table S for a lump sum, else of the monthly table.
-#[tactic(auto, using(common::proofs::Tests::tests), unfolding(terms::specs::Rate::table_rate, terms::specs::Rate::rate_for))]
+// The rate for an option, a whole pension age, an age and a term, 0 where none is printed, as both lookups give it: of Table S for a lump
+// sum, else of the monthly table. It is called and not inlined, so it takes fields: terms go by their address, copied for each call.
+#[inline(never)]
+#[tactic(auto, using(common::proofs::Tests::tests), unfolding(terms::specs::Rate::rate_for))]
+fn rate_for(option: u32, pension_age: u32, age: u32, term: u32) -> u32
+    ensures { result ≡ rate_for option pension_age age term }
+{
+    if term == 0 {
+        rates::lump_sum_rate(option, pension_age, age)
+    } else {
+        monthly::monthly_rate(option, pension_age, age, term)
+    }
+}
+
+// That of terms.
+#[tactic(auto, unfolding(terms::specs::Rate::table_rate))]
 fn table_rate(t: Terms, pension_age: u32) -> u32
     ensures { result ≡ table_rate t pension_age }
 {
-    if t.term == 0 {
-        rates::lump_sum_rate(t.option, pension_age, t.age)
-    } else {
-        monthly::monthly_rate(t.option, pension_age, t.age, t.term)
-    }
+    rate_for(t.option, pension_age, t.age, t.term)
 }
 
 // The same where it is printed.
@@ -52,6 +62,38 @@ fn rate_above(t: Terms) -> Option<u32>
     ensures { result ≡ if_printed (table_rate t (t.pnpa_years + 1)) }
 {
     rate_at(t, t.pnpa_years.checked_add(1)?)
+}
+
+// The rate of the upper pension age where odd months need one, 0 where none is printed.
+#[tactic(auto, using(crate::proofs::Laws::upper_rate_odd, crate::proofs::Laws::upper_rate_whole, crate::proofs::Rates::past_is_zero))]
+fn upper_rate(t: Terms) -> Option<u32>
+    ensures { result ≡ upper_rate t }
+{
+    if t.pnpa_months == 0 {
+        return None;
+    }
+    match t.pnpa_years.checked_add(1) {
+        Some(next) => Some(table_rate(t, next)),
+        None => Some(0),
+    }
+}
+
+// The rates that terms go by, whatever the terms: 0 for one that is needed and not printed.
+pub fn rates_of(t: Terms) -> TableRates
+    ensures { result ≡ rates_of t }
+{
+    TableRates {
+        lower: table_rate(t, t.pnpa_years),
+        upper: upper_rate(t),
+    }
+}
+
+// Whether the upper pension age is needed and has no rate.
+#[tactic(auto, using(common::proofs::Tests::tests), unfolding(terms::specs::Rules::missing_upper))]
+pub fn missing_upper(t: Terms, upper: u32) -> bool
+    ensures { result ≡ missing_upper t upper }
+{
+    t.pnpa_months != 0 && upper == 0
 }
 
 impl TableRates {
@@ -103,7 +145,9 @@ pub struct Election {
 }
 
 impl Election {
-    // The terms as they are elected beside an existing pension; or the first of the rules 1 to 8 that refuses.
+    // The terms as they are elected beside an existing pension; or the first of the rules 1 to 8 that refuses. Called, it would hand on what is
+    // accepted by its address.
+    #[inline]
     #[tactic(auto, using(refusals::proofs::Numbers::refusal_positive, terms::proofs::Laws::terms_decide, terms::proofs::Laws::rates_decide, terms::proofs::Laws::amount_decides))]
     pub fn new(t: Terms, existing: PensionPence) -> Result<Election, Refusal>
         ensures refusal { refusal_in result ≡ refusal_of t existing.0 }

@@ -12,11 +12,12 @@ use money::{Pence, PensionPence};
 use refusals::Refused;
 use terms::Terms;
 
-// What a settlement of terms and marks that no rule refuses goes by.
+// What a settlement of terms and marks that no rule refuses goes by. The status stands first, as the one byte of a refusal does: a number in
+// its place would be read in two parts.
 #[derive(Clone, Copy)]
 pub struct Examined {
-    pub election: Election,
     pub status: Status,
+    pub election: Election,
     pub payments: usize,
 }
 

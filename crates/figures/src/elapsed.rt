@@ -1,31 +1,25 @@
 // The marks of a contract's elapsed months, put together from runs of one mark.
-ghost use Rattle.std.specs.Prelude.{◌≡◌, ◌≤◌, [], List, ℕ, take};
-ghost use Rattle.figures.specs.Elapsed.{with_run, row_marks};
+ghost use Rattle.std.specs.Prelude.{[], ◌≡◌, ◌≤◌};
+ghost use Rattle.figures.specs.declared.elapsed.TheConstants.{ROOM};
 
 use crate::asked::MarkRun;
-use std::marker::Model;
 
 // More months than any contract has, so that too many can be asked.
 const ROOM: usize = 256;
 
 // Fixed memory: the first `count` marks are the elapsed months'.
-#[derive(Drop)]
+#[derive(Clone, Copy)]
 pub struct Elapsed {
     marks: [u8; ROOM],
     count: usize,
-}
-
-impl Model for Elapsed {
-    ghost Value = { List ℕ };
-
-    ghost view = { λ e. take e.count e.marks };
-
-    ghost invariant = { λ e. e.count ≤ 256 };
+    ghost fits: { count ≤ ROOM },
 }
 
 impl Elapsed {
+    ghost use Rattle.figures.specs.Elapsed.{elapsed_marks, with_run, row_marks};
+
     fn none() -> Self
-        ensures { result ≡ [] }
+        ensures { elapsed_marks result ≡ [] }
     {
         Elapsed {
             marks: [0u8; ROOM],
@@ -35,7 +29,7 @@ impl Elapsed {
 
     // One run more, as far as there is room.
     fn push_run(&mut self, run: MarkRun)
-        ensures { self.new ≡ with_run self.old run }
+        ensures { elapsed_marks self.new ≡ with_run (elapsed_marks self.old) run }
     {
         let (mark, months) = run;
         let end = self.count + months.min(ROOM - self.count);
@@ -45,7 +39,7 @@ impl Elapsed {
 
     // The marks of runs, one after another.
     pub fn of_runs(runs: &[MarkRun]) -> Self
-        ensures { result ≡ row_marks runs.now }
+        ensures { elapsed_marks result ≡ row_marks runs.now }
     {
         let mut elapsed = Elapsed::none();
         for run in runs {
@@ -55,7 +49,7 @@ impl Elapsed {
     }
 
     pub fn as_slice(&self) -> &[u8]
-        ensures { result.now ≡ self.now }
+        ensures { result.now ≡ elapsed_marks self.now }
     {
         &self.marks[..self.count]
     }

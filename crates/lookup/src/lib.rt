@@ -11,7 +11,7 @@ ghost use Rattle.lookup.specs.Tables.{lent_in_pence};
 
 // The entry of a table for an age and a term; 0 where it has no line for the age or no place for the term.
 #[tactic(auto, unfolding(rates::specs::Rates::cell_of))]
-fn entry(table: &[u16; 1020], age: u32, term: u32) -> u16
+pub fn entry(table: &[u16; 1020], age: u32, term: u32) -> u16
     ensures { result ≡ cell_of first_age print_margin table.now age term }
 {
     match (age, term) {

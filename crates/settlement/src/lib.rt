@@ -8,6 +8,7 @@ ghost use Rattle.refusals.specs.Numbers.{is_refused};
 ghost use Rattle.money.specs.Money.{pension};
 ghost use Rattle.money.specs.Contribution.{contribution};
 ghost use Rattle.marks.specs.Numbers.{status_number};
+ghost use Rattle.examination.specs.Examine.{Monthly};
 ghost use Rattle.settlement.specs.Credit.{credit_of};
 ghost use Rattle.settlement.specs.Settle.{credit_at_status, settle_of, numbers_of_settlement};
 ghost use Rattle.settlement.specs.Demand.{Demand3};
@@ -15,7 +16,7 @@ ghost use Rattle.settlement.specs.Marks.{MarksAnswered};
 ghost use Rattle.settlement.specs.LumpSum.{LumpSumAnswered};
 ghost use Rattle.settlement.specs.Six.{as_settle_numbers};
 
-use election::Election;
+use election::{Election, TableRates};
 use marks::Status;
 use money::{ContributionPence, Pence, PensionPence};
 use refusals::Refused;
@@ -51,18 +52,31 @@ fn runs_credit(e: Election, marks: &[u8]) -> PensionPence
     }
 }
 
-// The credit at a status: nothing when refunded, a lump sum in full.
-#[tactic(auto, unfolding(crate::specs::Settle::credit_at_status))]
+// The credit at the number of a status: nothing when refunded, a lump sum in full, whatever the terms; at any other what the paid runs earned.
+#[inline]
+#[tactic(auto, using(common::proofs::Tests::tests), unfolding(crate::specs::Settle::credit_at_status))]
+pub fn credit_at_number(t: Terms, rates: TableRates, status: u32, marks: &[u8]) -> PensionPence
+    requires monthly { (status ≡ 5 → ⊥) → (status ≡ 6 → ⊥) → Monthly t rates }
+    requires marks_len_bound { length marks.now ≤ most_marks }
+    ensures { result ≡ pension (credit_at_status t marks.now status) }
+{
+    if status == Status::Refunded.number() {
+        PensionPence::none()
+    } else if status == Status::LumpSum.number() {
+        PensionPence::of_pounds(t.amount)
+    } else {
+        runs_credit(Election { terms: t, rates }, marks)
+    }
+}
+
+// The same of an election.
+#[inline]
 pub fn credit_at_status(e: Election, status: Status, marks: &[u8]) -> PensionPence
     requires monthly { (status_number status ≡ 5 → ⊥) → (status_number status ≡ 6 → ⊥) → 0 < e.terms.term }
     requires marks_len_bound { length marks.now ≤ most_marks }
     ensures { result ≡ pension (credit_at_status e.terms marks.now (status_number status)) }
 {
-    match status {
-        Status::Refunded => PensionPence::none(),
-        Status::LumpSum => PensionPence::of_pounds(e.terms.amount),
-        _ => runs_credit(e, marks),
-    }
+    credit_at_number(e.terms, e.rates, status.number(), marks)
 }
 
 // The refund at a status: the contributions that were paid when refunded.

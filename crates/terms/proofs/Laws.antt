@@ -83,19 +83,21 @@ last_four_parts false true rest = refl
 last_four_parts false false rest = refl
 
 -- the chain in the three parts that the code asks one after the other
+last_in_parts : (t : Terms) (existing : ℕ) → last_four_refusal t existing ≡ first_of (rate_refusal t) (amount_refusal t existing)
+unfolding last_four_refusal rate_refusal amount_refusal
+last_in_parts t existing = last_four_parts (no_rate t) (no_upper_rate t) _
+
 pub in_parts : (t : Terms) (existing : ℕ)
     → refusal_of t existing ≡ first_of (first_four_refusal t) (first_of (rate_refusal t) (amount_refusal t existing))
-unfolding last_four_refusal rate_refusal amount_refusal
-in_parts t existing =
-    halves t existing ∙ ap (λ (rest : ℕ). first_of (first_four_refusal t) rest) (last_four_parts (no_rate t) (no_upper_rate t) _)
+in_parts t existing = halves t existing ∙ ap (λ (rest : ℕ). first_of (first_four_refusal t) rest) (last_in_parts t existing)
 
 -- so the first part that refuses decides
 module _ (t : Terms) (existing : ℕ) (terms : first_four_refusal t ≡ 0) where
   pub rates_decide : (rate_refusal t ≡ 0 → ⊥) → refusal_of t existing ≡ rate_refusal t
-  rates_decide h = in_parts t existing ∙ first_passes _ _ terms ∙ first_refuses _ _ h
+  rates_decide h = last_four_decide t existing terms ∙ last_in_parts t existing ∙ first_refuses _ _ h
 
   pub amount_decides : rate_refusal t ≡ 0 → refusal_of t existing ≡ amount_refusal t existing
-  amount_decides rates = in_parts t existing ∙ first_passes _ _ terms ∙ first_passes _ _ rates
+  amount_decides rates = last_four_decide t existing terms ∙ last_in_parts t existing ∙ first_passes _ _ rates
 
 -- the greatest refusal
 pub refusal_most : (t : Terms) (existing : ℕ) → refusal_of t existing ≤ last_terms_refusal

@@ -8,8 +8,11 @@ use Rattle.refusals.proofs.Numbers.{refusal_positive}
 use Rattle.paid_runs.specs.PaidRun.{paid_run}
 use Rattle.paid_runs.proofs.PaidRun.{run_inside}
 use Rattle.marks.specs.Reading.{marks_reading}
-use Rattle.marks.proofs.Runs.{one_read, run_passed, refused_read, all_read}
+use Rattle.marks.proofs.Runs.{none_read, one_read, run_passed, refused_read, all_read}
 use Rattle.marks.proofs.read_marks.Goals as goal
+
+pub loop-mark-init : goal.loop-mark-init
+loop-mark-init c = (search rules, rw (c.start-r.ensures, c.of.ensures) (none_read _ _ c.args.marks.now))
 
 pub returns-in_err-r : goal.returns-in_err-r
 unfolding marks_reading

@@ -10,13 +10,13 @@ use Rattle.figures.proofs.elapsed.Elapsed.push_run.Goals as goal
 pub returns : goal.returns
 unfolding with_run
 returns c =
-    let i = c.self.inside in
+    let i = c.args.self.now in
     let mark : ℕ = c.args.run.0 in
     let months : ℕ = c.args.run.1 in
     let added : ℕ = c.min.result in
     let before : List ℕ = take i.count i.marks in
-    let within : i.count ≤ 256 = c.self.invariant in
-    let full : length i.marks ≡ 256 = c.self.told in
+    let within : i.count ≤ 256 = omega (arith, i.fits) in
+    let full : length i.marks ≡ 256 = omega arith in
     let cut : added ≡ min months (256 - i.count) = c.min.ensures in
     let room : length (mid_of i.count (i.count + added - i.count) i.marks) ≡ added = rw (length-take, length-drop) (omega arith) in
     let filled : c.fill.new.self ≡ replicate added mark = c.fill.ensures.after (λ y e. e) ∙ ap (λ n. replicate n mark) room in
@@ -24,4 +24,3 @@ returns c =
     take-put_mid i.count _ i.marks c.fill.new.self (i.count + added) (rw (filled, length-replicate) refl) (omega arith)
     ∙ ap (λ run. before ++ run) (filled ∙ ap (λ n. replicate n mark) (cut ∙ ap (λ n. min months (256 - n)) (sym long)))
     ∙ run_that_fits before 256 months mark (omega arith)
-    ∙ ap (λ marks. take 256 (marks ++ replicate months mark)) c.self.view_is
