@@ -12,16 +12,16 @@ use money::{Pence, PensionPence};
 use refusals::Refused;
 use terms::Terms;
 
-// What a settlement of terms and marks that no rule refuses goes by. The status stands first, as the one byte of a refusal does: a number in
-// its place would be read in two parts.
+// What a settlement of terms and marks that no rule refuses goes by.
 #[derive(Clone, Copy)]
 pub struct Examined {
-    pub status: Status,
     pub election: Election,
+    pub status: Status,
     pub payments: usize,
 }
 
 // The terms are looked at first, as a quote with nothing existing; then the marks.
+#[inline(always)]
 #[tactic(auto, using(common::proofs::Tests::tests, refusals::proofs::Numbers::refusal_positive, crate::proofs::Laws::refused_by_terms, crate::proofs::Laws::refused_by_marks, marks::proofs::Term::marks_number, marks::proofs::Term::marks_place))]
 pub fn examine(t: Terms, marks: &[u8]) -> Result<Examined, Refused>
     ensures refusal { refused_in result ≡ settle_refusal t marks.now }
